@@ -1,0 +1,6 @@
+//! Definitions as data.
+#![tactic(auto)]
+
+mod entry;
+
+pub use entry::Arity;

@@ -1,0 +1,14 @@
+-- The trees of single tokens.
+use Rattle.ir_lexer.specs.Names.{name_bytes}
+use Rattle.ir_lexer.specs.Tokens.{Token}
+use Rattle.generic_syntax.specs.declared.cst.NameCst.{NameCst}
+use Rattle.generic_syntax.specs.declared.cst.ValueCst.{ValueCst, roll-ValueCst}
+use Rattle.generic_syntax.specs.declared.cst.ValueNode.TheVariants as node
+
+-- a name, without its sign
+unfoldable pub name_of : Token → NameCst
+name_of t = record { place = t.place; name = name_bytes t.text }
+
+-- a type that is one word
+unfoldable pub word_type : Token → ValueCst
+word_type t = roll-ValueCst (record { place = t.place; node = node.Word t.text })

@@ -1,0 +1,18 @@
+//! Trees of what is read, and the readers of single names and words.
+//!
+//! A tree keeps what was written and where; what it means is found by the crates above. Contracts
+//! see each tree as plain data, and a grammar makes the very same data, so "the tree of these
+//! tokens" is one equation.
+#![tactic(auto)]
+
+mod cst;
+mod name;
+mod word;
+
+pub use cst::{EntryCst, ItemCst, NameCst, ValueCst, ValueNode};
+pub use grammar::{SyntaxCode, SyntaxStop};
+pub use name::read_name;
+pub use word::read_integer_type;
+
+#[cfg(test)]
+mod tests;

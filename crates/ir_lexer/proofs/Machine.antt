@@ -1,0 +1,318 @@
+-- The table meets the definition of the spellings.
+--
+-- Each state has a text that leads to it, and what may follow there is what the classes'
+-- expressions leave open behind that text. The tests compare this for each step of the table, and
+-- are computed: for each state, class and column. A byte is read as the sample of its column. So a
+-- text spells a class exactly where the table, run over it, ends in a whole state of that class
+-- (`accepted`, `spelled`). No proof looks at a single class.
+use Rattle.std.proofs.Common.{◌≡◌, ℕ, zero, suc, ◌<◌, ◌≤◌, Bool, true, false, ◌&&◌, not, List, [], ◌∷◌, get_or, refl, sym, ◌∙◌, ap, subst, inl, inr, arith, ◌⊎◌, eqb, eqb-true, codes, nat_le, nat_lt, nat_eq, lit<, ltb-true}
+use Rattle.std.specs.List.{list_all}
+use Rattle.std.proofs.lemmas.List.{get_or_past}
+use Rattle.std.proofs.lemmas.Bool.{lt-leb}
+use Rattle.std.proofs.lemmas.List.Sums.{AllPass-from_list_all}
+use denote.Enum.Bare.{same_true, true_same}
+use Rattle.ir_lexer.specs.contracts.class.Class.{the_type}
+use Rattle.ir_lexer.specs.declared.class.Class.{Class}
+use Rattle.ir_lexer.specs.declared.class.Class.TheVariants as c
+use Rattle.ir_lexer.specs.declared.table.TheConstants.{COLUMN, COLUMNS, STATES, START}
+use Rattle.ir_lexer.specs.Spelling.{Text, Spelling, never, empty, between, both, either, many, Fits, Spells, spelling}
+use Rattle.ir_lexer.specs.Scan.{column, next, step, is_whole, class_at, same_class}
+use Rattle.ir_lexer.proofs.Derive.{takes_none, behind, behind_all, is_alike, same_truth, same_truth_is, and_left, and_right, and_both, behind_alike, alike_behind_all, none_in, none_out, behind_in, behind_out}
+
+-- ---- the tests that compute
+
+-- a text that leads to each state, in the order of the table's rows
+abbrev pub ways : List Text
+ways =
+    codes "/" ∷ [] ∷ codes "!" ∷ codes "\"" ∷ codes "#" ∷ codes "%" ∷ codes "@" ∷ codes "^"
+    ∷ codes "\"\\" ∷ codes "0x" ∷ codes "@\"" ∷ codes "\"\\0" ∷ codes "0.E" ∷ codes "1x1"
+    ∷ codes "1x?" ∷ codes "@\"\\" ∷ codes "0.E+" ∷ codes "@\"\\0" ∷ codes "A" ∷ codes "0"
+    ∷ codes "1" ∷ codes "00" ∷ codes "0x0" ∷ codes "0." ∷ codes "0.E0" ∷ codes "1x"
+    ∷ codes "\"\"" ∷ codes "%$" ∷ codes "%0" ∷ codes "^$" ∷ codes "^0" ∷ codes "@$" ∷ codes "@0"
+    ∷ codes "@\"\"" ∷ codes "!$" ∷ codes "!0" ∷ codes "#$" ∷ codes "#0" ∷ codes ":" ∷ codes "::"
+    ∷ codes "," ∷ codes "=" ∷ codes "<" ∷ codes ">" ∷ codes "(" ∷ codes ")" ∷ codes "{"
+    ∷ codes "}" ∷ codes "[" ∷ codes "]" ∷ codes "->" ∷ codes "-" ∷ codes "?" ∷ codes "+"
+    ∷ codes "*" ∷ []
+
+-- a byte of each column, in the order of the columns
+abbrev pub samples : Text
+samples =
+    10 ∷ 0 ∷ 14 ∷ 33 ∷ 34 ∷ 35 ∷ 36 ∷ 37 ∷ 38 ∷ 40 ∷ 41 ∷ 42 ∷ 43 ∷ 44 ∷ 45 ∷ 46 ∷ 48 ∷ 49 ∷ 58
+    ∷ 60 ∷ 61 ∷ 62 ∷ 63 ∷ 64 ∷ 65 ∷ 69 ∷ 71 ∷ 91 ∷ 92 ∷ 93 ∷ 94 ∷ 95 ∷ 96 ∷ 97 ∷ 101 ∷ 103 ∷ 110
+    ∷ 116 ∷ 120 ∷ 123 ∷ 125 ∷ []
+
+abbrev pub classes : List Class
+classes =
+    c.Word ∷ c.Integer ∷ c.Float ∷ c.Dims ∷ c.Str ∷ c.ValueName ∷ c.BlockName ∷ c.SymbolName
+    ∷ c.TypeName ∷ c.AttrName ∷ c.ResultNumber ∷ c.Colon ∷ c.ColonColon ∷ c.Comma ∷ c.Equal
+    ∷ c.Less ∷ c.Greater ∷ c.LParen ∷ c.RParen ∷ c.LBrace ∷ c.RBrace ∷ c.LSquare ∷ c.RSquare
+    ∷ c.Arrow ∷ c.Minus ∷ c.Question ∷ c.Plus ∷ c.Star ∷ c.Bad ∷ c.End ∷ []
+
+-- what may follow in a state
+abbrev pub left : ℕ → Class → Spelling
+left s class = behind_all (get_or ways s []) (spelling class)
+
+-- whether two expressions are written the same way
+abbrev pub same : Spelling → Spelling → Bool
+same never never = true
+same empty empty = true
+same (between a b) (between x y) = eqb a x && eqb b y
+same (both r s) (both x y) = same r x && same s y
+same (either r s) (either x y) = same r x && same s y
+same (many r) (many x) = same r x
+same _ _ = false
+
+-- each number below the bound passes the test
+abbrev pub upto : ℕ → (ℕ → Bool) → Bool
+upto zero p = true
+upto (suc n) p = upto n p && p n
+
+-- the state behind a state and a column leaves open what the sample of the column does
+abbrev pub steps_at : ℕ → Class → ℕ → Bool
+steps_at s class k = same (behind (get_or samples k 0) (left s class)) (left (next s k) class)
+
+abbrev pub row_steps : ℕ → Bool
+row_steps s = list_all (λ class. upto COLUMNS (steps_at s class)) classes
+
+steps_right : upto STATES row_steps ≡ true
+steps_right = refl
+
+-- a row leads to states of the table
+abbrev pub row_within : ℕ → Bool
+row_within s = upto COLUMNS (λ k. nat_lt (next s k) STATES)
+
+steps_within : upto STATES row_within ≡ true
+steps_within = refl
+
+-- no class tells a byte from the sample of its column
+abbrev pub sample_like : ℕ → Class → Bool
+sample_like b class = is_alike b (get_or samples (column b) 0) (spelling class)
+
+abbrev pub column_like : ℕ → Bool
+column_like b = list_all (sample_like b) classes
+
+columns_right : upto 256 column_like ≡ true
+columns_right = refl
+
+columns_within : upto 256 (λ b. nat_lt (column b) COLUMNS) ≡ true
+columns_within = refl
+
+-- no number past a byte stands in a spelling, nor does a line feed, the sample of column 0
+abbrev pub avoids : Spelling → Bool
+avoids never = true
+avoids empty = true
+avoids (between low high) = nat_lt high 256 && not (nat_le low 10 && nat_le 10 high)
+avoids (both r s) = avoids r && avoids s
+avoids (either r s) = avoids r && avoids s
+avoids (many r) = avoids r
+
+all_avoid : list_all (λ class. avoids (spelling class)) classes ≡ true
+all_avoid = refl
+
+-- a state leaves nothing open where it is whole, for its own class alone
+abbrev pub whole_at : ℕ → Class → Bool
+whole_at s class =
+    same_truth (takes_none (left s class)) (is_whole s && same_class (class_at s) class)
+
+abbrev pub row_whole : ℕ → Bool
+row_whole s = list_all (whole_at s) classes
+
+wholes_right : upto STATES row_whole ≡ true
+unfolding is_whole same_class class_at
+wholes_right = refl
+
+dead_stays : upto COLUMNS (λ k. nat_eq (next 0 k) 0) ≡ true
+dead_stays = refl
+
+-- ---- what these tests say of any state, class and byte
+
+pub same_is : (r s : Spelling) → same r s ≡ true → r ≡ s
+same_is never never e = refl
+same_is empty empty e = refl
+same_is (between a b) (between x y) e =
+    let first : a ≡ x = eqb-true _ _ (and_left (eqb a x) (eqb b y) e) in
+    let second : b ≡ y = eqb-true _ _ (and_right (eqb a x) (eqb b y) e) in
+    cc
+same_is (both r s) (both x y) e =
+    let first : r ≡ x = same_is r x (and_left (same r x) (same s y) e) in
+    let second : s ≡ y = same_is s y (and_right (same r x) (same s y) e) in
+    cc
+same_is (either r s) (either x y) e =
+    let first : r ≡ x = same_is r x (and_left (same r x) (same s y) e) in
+    let second : s ≡ y = same_is s y (and_right (same r x) (same s y) e) in
+    cc
+same_is (many r) (many x) e = ap (λ z. many z) (same_is r x e)
+same_is _ _ e = absurd (cc)
+
+pub below : (n : ℕ) (p : ℕ → Bool) → upto n p ≡ true → (k : ℕ) → k < n → p k ≡ true
+below zero p e k h = absurd (omega arith)
+below (suc n) p e k h = elim (last_or n k h) [
+  | inl less ↦ below n p (and_left _ _ e) k less
+  | inr is ↦ rw is (and_right _ _ e)
+]
+  where
+    last_or : (n k : ℕ) → k < suc n → (k < n) ⊎ (k ≡ n)
+    last_or n k h = grind arith
+
+at_place : (f : Class → Bool) → list_all f classes ≡ true → (k : ℕ) → k < 30
+    → f (get_or classes k c.Bad) ≡ true
+at_place f e k h = AllPass-from_list_all f classes e k c.Bad h
+
+pub every : (f : Class → Bool) → list_all f classes ≡ true → (class : Class) → f class ≡ true
+every f e c.Word = at_place f e 0 (lit< tt)
+every f e c.Integer = at_place f e 1 (lit< tt)
+every f e c.Float = at_place f e 2 (lit< tt)
+every f e c.Dims = at_place f e 3 (lit< tt)
+every f e c.Str = at_place f e 4 (lit< tt)
+every f e c.ValueName = at_place f e 5 (lit< tt)
+every f e c.BlockName = at_place f e 6 (lit< tt)
+every f e c.SymbolName = at_place f e 7 (lit< tt)
+every f e c.TypeName = at_place f e 8 (lit< tt)
+every f e c.AttrName = at_place f e 9 (lit< tt)
+every f e c.ResultNumber = at_place f e 10 (lit< tt)
+every f e c.Colon = at_place f e 11 (lit< tt)
+every f e c.ColonColon = at_place f e 12 (lit< tt)
+every f e c.Comma = at_place f e 13 (lit< tt)
+every f e c.Equal = at_place f e 14 (lit< tt)
+every f e c.Less = at_place f e 15 (lit< tt)
+every f e c.Greater = at_place f e 16 (lit< tt)
+every f e c.LParen = at_place f e 17 (lit< tt)
+every f e c.RParen = at_place f e 18 (lit< tt)
+every f e c.LBrace = at_place f e 19 (lit< tt)
+every f e c.RBrace = at_place f e 20 (lit< tt)
+every f e c.LSquare = at_place f e 21 (lit< tt)
+every f e c.RSquare = at_place f e 22 (lit< tt)
+every f e c.Arrow = at_place f e 23 (lit< tt)
+every f e c.Minus = at_place f e 24 (lit< tt)
+every f e c.Question = at_place f e 25 (lit< tt)
+every f e c.Plus = at_place f e 26 (lit< tt)
+every f e c.Star = at_place f e 27 (lit< tt)
+every f e c.Bad = at_place f e 28 (lit< tt)
+every f e c.End = at_place f e 29 (lit< tt)
+
+near_or_far : (b : ℕ) → (b < 256) ⊎ (256 ≤ b)
+near_or_far b = grind arith
+
+alike_range : (b low high : ℕ) → 256 ≤ b → high < 256 → not (nat_le low 10 && nat_le 10 high) ≡ true
+    → same_truth (nat_le low b && nat_le b high) (nat_le low 10 && nat_le 10 high) ≡ true
+alike_range b low high far h e =
+    let beyond : nat_le b high ≡ false = lt-leb b high (omega arith) in
+    rw beyond (both_false (nat_le low b) (nat_le low 10 && nat_le 10 high) e)
+  where
+    both_false : (x y : Bool) → not y ≡ true → same_truth (x && false) y ≡ true
+    both_false true y e = e
+    both_false false y e = e
+
+pub column_within : (b : ℕ) → column b < COLUMNS
+column_within b = elim (near_or_far b) [
+  | inl near ↦ ltb-true _ _ (below 256 (λ x. nat_lt (column x) COLUMNS) columns_within b near)
+  | inr far ↦ rw (get_or_past COLUMN b 0 far) (lit< tt)
+]
+
+alike_far : (b : ℕ) → 256 ≤ b → (r : Spelling) → avoids r ≡ true → is_alike b 10 r ≡ true
+alike_far b far never e = refl
+alike_far b far empty e = refl
+alike_far b far (between low high) e =
+    alike_range b low high far (ltb-true _ _ (and_left (nat_lt high 256) _ e))
+    (and_right (nat_lt high 256) _ e)
+alike_far b far (both r s) e =
+    and_both _ _ (alike_far b far r (and_left _ _ e)) (alike_far b far s (and_right _ _ e))
+alike_far b far (either r s) e =
+    and_both _ _ (alike_far b far r (and_left _ _ e)) (alike_far b far s (and_right _ _ e))
+alike_far b far (many r) e = alike_far b far r e
+
+pub like_sample : (b : ℕ) (class : Class) → sample_like b class ≡ true
+like_sample b class = elim (near_or_far b) [
+  | inl near ↦ every (sample_like b) (below 256 column_like columns_right b near) class
+  | inr far ↦ rw (get_or_past COLUMN b 0 far) (alike_far b far (spelling class) (avoided class))
+]
+  where
+    avoided : (class : Class) → avoids (spelling class) ≡ true
+    avoided class = every (λ x. avoids (spelling x)) all_avoid class
+
+pub step_right : (s b : ℕ) (class : Class) → s < STATES
+    → behind b (left s class) ≡ left (next s (column b)) class
+step_right s b class h =
+    let k = column b in
+    let like : is_alike b (get_or samples k 0) (left s class) ≡ true =
+    alike_behind_all b _ (get_or ways s []) (spelling class) (like_sample b class) in
+    let row : upto COLUMNS (steps_at s class) ≡ true =
+    every (λ x. upto COLUMNS (steps_at s x)) (below STATES row_steps steps_right s h) class in
+    behind_alike b (get_or samples k 0) (left s class) like
+    ∙ same_is _ _ (below COLUMNS (steps_at s class) row k (column_within b))
+
+-- ---- runs of the table
+
+abbrev pub run : ℕ → Text → ℕ
+run s [] = s
+run s (b ∷ t) = run (step s b) t
+
+pub step_within : (s b : ℕ) → s < STATES → step s b < STATES
+unfolding step
+step_within s b h =
+    let row : row_within s ≡ true = below STATES row_within steps_within s h in
+    ltb-true _ _ (below COLUMNS (λ k. nat_lt (next s k) STATES) row (column b) (column_within b))
+
+pub run_within : (t : Text) (s : ℕ) → s < STATES → run s t < STATES
+run_within [] s h = h
+run_within (b ∷ t) s h = run_within t (step s b) (step_within s b h)
+
+step_left : (s b : ℕ) (class : Class) → s < STATES → behind b (left s class) ≡ left (step s b) class
+unfolding step
+step_left s b class h = step_right s b class h
+
+run_in : (t : Text) (s : ℕ) (class : Class) → s < STATES → Fits (left s class) t
+    → takes_none (left (run s t) class) ≡ true
+run_in [] s class h f = none_out (left s class) f
+run_in (b ∷ t) s class h f =
+    run_in t (step s b) class (step_within s b h)
+    (subst (λ r. Fits r t) (step_left s b class h) (behind_in (left s class) b t f))
+
+run_out : (t : Text) (s : ℕ) (class : Class) → s < STATES → takes_none (left (run s t) class) ≡ true
+    → Fits (left s class) t
+run_out [] s class h e = none_in (left s class) e
+run_out (b ∷ t) s class h e =
+    let rest : Fits (left (step s b) class) t = run_out t (step s b) class (step_within s b h) e in
+    behind_out (left s class) b t (subst (λ r. Fits r t) (sym (step_left s b class h)) rest)
+
+whole_is : (s : ℕ) (class : Class) → s < STATES
+    → takes_none (left s class) ≡ (is_whole s && same_class (class_at s) class)
+whole_is s class h =
+    same_truth_is _ _ (every (whole_at s) (below STATES row_whole wholes_right s h) class)
+
+pub same_class_is : (a b : Class) → same_class a b ≡ true → a ≡ b
+unfolding same_class
+same_class_is a b e = same_true the_type tt a b e
+
+pub same_class_refl : (a : Class) → same_class a a ≡ true
+unfolding same_class
+same_class_refl a = true_same the_type a a refl
+
+-- a text that spells a class leads to a whole state, of that class
+pub accepted : (class : Class) (t : Text) → Spells class t
+    → (is_whole (run START t) ≡ true) × (class_at (run START t) ≡ class)
+unfolding Spells
+accepted class t f =
+    let s = run START t in
+    let e : (is_whole s && same_class (class_at s) class) ≡ true =
+    sym (whole_is s class (run_within t START (lit< tt))) ∙ run_in t START class (lit< tt) f in
+    (and_left _ _ e, same_class_is _ _ (and_right (is_whole s) _ e))
+
+-- and a text that leads to a whole state spells its class
+pub spelled : (t : Text) → is_whole (run START t) ≡ true → Spells (class_at (run START t)) t
+unfolding Spells
+spelled t e =
+    let s = run START t in
+    let none : takes_none (left s (class_at s)) ≡ true =
+    whole_is s (class_at s) (run_within t START (lit< tt))
+    ∙ and_both _ _ e (same_class_refl (class_at s)) in
+    run_out t START (class_at s) (lit< tt) none
+
+pub step_dead : (b : ℕ) → step 0 b ≡ 0
+unfolding step
+step_dead b =
+    eqb-true _ _ (below COLUMNS (λ k. nat_eq (next 0 k) 0) dead_stays (column b) (column_within b))
+
+pub run_dead : (t : Text) → run 0 t ≡ 0
+run_dead [] = refl
+run_dead (b ∷ t) = rw (step_dead b) (run_dead t)

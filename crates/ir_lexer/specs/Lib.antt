@@ -1,0 +1,11 @@
+pub mod Signs
+pub mod Spelling
+pub mod Tokens
+pub mod Names
+pub mod Place
+pub mod Reading
+pub mod Source
+pub mod Slice
+pub mod SliceInside
+pub mod Scan
+pub mod Sliced

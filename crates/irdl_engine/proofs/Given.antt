@@ -1,0 +1,75 @@
+-- From what was judged and what was said to what is given.
+use Rattle.std.proofs.Common.{◌≡◌, inl, inr, [], refl, rules}
+use Rattle.std.specs.Prelude.{IfSome}
+use Rattle.std.specs.declared.option.Option.{Option}
+use Rattle.std.specs.declared.option.Option.TheVariants.{Some, None}
+use Rattle.std.specs.Io.KnownBytes.{Appends, Keeps}
+use Rattle.irdl_bytes.specs.Outside.{FileMap, AppendsPrefix}
+use Rattle.ir_lexer.specs.Spelling.{Text}
+use Rattle.irdl_engine.specs.declared.status.Status.{Status}
+use Rattle.irdl_engine.specs.declared.status.Status.TheVariants.{OutOfMemory}
+use Rattle.irdl_engine.specs.Answer.{Answer, MayAnswer, usage}
+use Rattle.irdl_engine.specs.Command.{Command}
+use Rattle.irdl_engine.specs.Writes.{Change, change, Says, GivesAll, GivesFronts, MayGive}
+
+-- a line that stands for another
+pub says_as : (s s' r : Status) (t t' : Text) (e : Change)
+    → Says s t r e → s ≡ s' → t ≡ t' → Says s' t' r e
+says_as s s' r t t' e h p q = rw (← p, ← q) h
+
+-- a sink that is left alone got nothing
+pub got_nothing : (b : Option Text) → Appends b b []
+got_nothing None = tt
+got_nothing (Some bs) = search rules
+
+-- nothing is a front of any text
+got_front_of_all : (b : Option Text) (t : Text) → AppendsPrefix b b t
+got_front_of_all None t = (0, tt)
+got_front_of_all (Some bs) t = (0, search rules)
+
+-- a sink that is left alone keeps its bytes
+pub kept : (b : Option Text) → Keeps b b
+kept None = tt
+kept (Some bs) = refl
+
+-- an answer that has nothing for standard output, of which the line was said
+pub gives_said : (m : FileMap) (failed : Type 0) (command : Option Command) (a : Answer)
+    (status : Status) (out : Option Text) (err : Change)
+    → MayAnswer m failed command a → a.out ≡ [] → Says a.status a.err status err
+    → MayGive m failed command status (change out out) err
+gives_said m failed command a status out err may none (inl h) =
+    let all : GivesAll a status (change out out) err =
+    record { status_is = h.0; out_got = rw none (got_nothing out); err_got = h.1 } in
+    inl (record { answer = a; planned = may; given = inl all })
+gives_said m failed command a status out err may none (inr h) =
+    let fronts : GivesFronts a status (change out out) err =
+    record { status_is = h.0; out_got = got_front_of_all out a.out; err_got = h.1 } in
+    inl (record { answer = a; planned = may; given = inr fronts })
+
+-- the same, where the files may tell their bytes
+pub said_given : (told : Option FileMap) (failed : Type 0) (command : Option Command) (a : Answer)
+    (status : Status) (out : Option Text) (err : Change)
+    → IfSome told (λ m. MayAnswer m failed command a) → a.out ≡ [] → Says a.status a.err status err
+    → IfSome told (λ m. MayGive m failed command status (change out out) err)
+said_given None failed command a status out err may none h = tt
+said_given (Some m) failed command a status out err may none h =
+    gives_said m failed command a status out err may none h
+
+-- want of memory, where nothing was written
+pub gives_up : (told : Option FileMap) (failed : Type 0) (command : Option Command)
+    (out err : Option Text)
+    → IfSome told (λ m. MayGive m failed command OutOfMemory (change out out) (change err err))
+gives_up None failed command out err = tt
+gives_up (Some m) failed command out err =
+    inr (record { status_is = refl; out_kept = kept out; err_kept = kept err })
+
+-- the usage line, where the words are no command
+pub usage_given : (told : Option FileMap) (failed : Type 0) (command : Option Command)
+    (status : Status) (out : Option Text) (err : Change)
+    → None ≡ command → Says usage.status usage.err status err
+    → IfSome told (λ m. MayGive m failed command status (change out out) err)
+usage_given None failed command status out err e h = tt
+usage_given (Some m) failed command status out err e h =
+    gives_said m failed command usage status out err (inl (rw (← e) refl)) refl h
+
+pub ruleset giving = (said_given, gives_up, usage_given, kept)

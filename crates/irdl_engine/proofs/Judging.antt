@@ -1,0 +1,145 @@
+-- What was read of a file, and the answer for it.
+--
+-- The tokens of a text are those that its source tells, so what is read or refused of the source is
+-- read or refused of the text. A file that is not read is a read fault or too long.
+use Rattle.std.proofs.Common.{◌≡◌, ◌≤◌, inl, inr, [], ◌∷◌, ◌++◌, ℕ, length}
+use Rattle.std.proofs.Common.{true, false, refl, ◌∙◌, ap, subst, append_assoc, arith}
+use Rattle.std.specs.Prelude.{IfSome, IsTrue, Bool}
+use Rattle.std.specs.declared.option.Option.{Option}
+use Rattle.std.specs.declared.option.Option.TheVariants.{Some, None}
+use Rattle.std.specs.declared.result.Result.{Result}
+use Rattle.std.specs.declared.result.Result.TheVariants.{Ok, Err}
+use Rattle.std.specs.declared.vec.Vec.{Vec}
+use Rattle.std.specs.declared.alloc.Global.{Global}
+use Rattle.irdl_bytes.specs.Outside.{FileMap, Lacks, Rose, FaultsByItself}
+use Rattle.irdl_bytes.specs.Whole.{file_limit, TellsBytes}
+use Rattle.irdl_bytes.specs.declared.whole.ReadError.TheVariants.{InputLimit}
+use Rattle.ir_lexer.specs.Source.{Source}
+use Rattle.ir_lexer.specs.Slice.{Tells}
+use Rattle.ir_lexer.specs.Spelling.{Text}
+use Rattle.ir_lexer.specs.Tokens.{Token, Tokens as AreTokens}
+use Rattle.ir_lexer.proofs.Once.{end_is_last, placed_within}
+use Rattle.grammar.specs.declared.stop.SyntaxCode.{SyntaxCode}
+use Rattle.grammar.specs.declared.stop.SyntaxStop.{SyntaxStop}
+use Rattle.grammar.specs.declared.stop.SyntaxStop.TheVariants.{At}
+use Rattle.grammar.specs.Answers.{Told, Answered, IsRefusal}
+use Rattle.grammar.specs.Front.{Front}
+use Rattle.grammar.specs.Grammar.{Tokens}
+use Rattle.irdl_ops.specs.declared.raw.RawDefs.{RawDefs}
+use Rattle.irdl_ops.specs.Definitions.{DefText, TooDeepDef}
+use Rattle.irdl_ops.proofs.Files.{file_ends, front_file}
+use Rattle.irdl_engine.specs.declared.code.DefCode.{DefCode}
+use Rattle.irdl_engine.specs.declared.outcome.Outcome.TheVariants.{Accepted, Unreadable, TooLong}
+use Rattle.irdl_engine.specs.declared.outcome.Outcome.TheVariants.{Refused as RefusedFor}
+use Rattle.irdl_engine.specs.declared.outcome.Refusal.{Refusal}
+use Rattle.irdl_engine.specs.Answer.{MayAnswer, read_fault}
+use Rattle.irdl_engine.specs.Command.{Check}
+use Rattle.irdl_engine.specs.Judged.{IsDefinition, IsRefusedAt, rule_of}
+use Rattle.irdl_engine.specs.Said.{said, Shows}
+
+-- ---- the tokens of a text
+
+-- a front of all tokens of a text that is a file takes all of them
+definition_of : (src : Text) (ts : Tokens) (d : RawDefs) (rest : Tokens)
+    → AreTokens src ts → Front DefText TooDeepDef ts d rest → IsDefinition src
+definition_of src ts d rest all f =
+    let e = file_ends f.front d f.tree in
+    let cut : ts ≡ e.0 ++ e.1 ∷ rest =
+    f.is ∙ ap (λ w. w ++ rest) e.2 ∙ append_assoc e.0 (e.1 ∷ []) rest in
+    let all_cut = subst (λ (w : Tokens). AreTokens src w) cut all in
+    let none = end_is_last src 0 e.0 e.1 rest all_cut e.3 in
+    record { tokens = ts; are_tokens = all; defs = d; is_file = front_file ts d rest f none }
+
+-- a token stands in its text
+cut_within : (src : Text) (ts front : Tokens) (t : Token) (rest : Tokens)
+    → AreTokens src ts → ts ≡ front ++ t ∷ rest → t.place ≤ length src
+cut_within src ts front t rest all is =
+    let all_cut = subst (λ (w : Tokens). AreTokens src w) is all in
+    placed_within src 0 front t rest (omega arith) all_cut
+
+-- so does a refusal
+refusal_within : (src : Text) (ts : Tokens) (place : ℕ) (code : SyntaxCode)
+    → AreTokens src ts → IsRefusal DefText TooDeepDef ts place code → place ≤ length src
+refusal_within src ts place code all (t, rest, at, inl (x, k)) =
+    let w = cut_within src ts x.front t rest all x.is in rw at w
+refusal_within src ts place code all (t, rest, at, inr (x, k)) =
+    let w = cut_within src ts x.front t rest all x.is in rw at w
+
+module _ (s : Source) (src : Text) (r : Result RawDefs SyntaxStop) (tells : Tells s src)
+    (told : Told s (λ ts. Answered DefText TooDeepDef ts r)) where
+  -- the answer is right for the text's tokens
+  answer_of : (a : Result RawDefs SyntaxStop) → r ≡ a
+      → Answered DefText TooDeepDef (s.now ∷ tells.tokens.0) a
+  answer_of a e =
+      let right = told tells.tokens.0 tells.tokens.1 in
+      subst (Answered DefText TooDeepDef (s.now ∷ tells.tokens.0)) e right
+
+  -- what is read of a text's tokens is a definition file
+  pub told_accepted : (d : RawDefs) → r ≡ Ok d → IsDefinition src
+  told_accepted d e =
+      let read = answer_of (Ok d) e in
+      definition_of src (s.now ∷ tells.tokens.0) d read.0 tells.tokens.2 read.1
+
+  -- a refusal stands in the text
+  pub told_within : (place : ℕ) (code : SyntaxCode) → r ≡ Err (At place code) → place ≤ length src
+  told_within place code e =
+      let refusal = answer_of (Err (At place code)) e in
+      refusal_within src (s.now ∷ tells.tokens.0) place code tells.tokens.2 refusal
+
+  -- what is refused of the tokens is refused of the text
+  pub told_refused : (place : ℕ) (code : SyntaxCode) (rule : DefCode)
+      → r ≡ Err (At place code) → rule ≡ rule_of code → IsRefusedAt src place rule
+  told_refused place code rule e is = record {
+    tokens = s.now ∷ tells.tokens.0;
+    are_tokens = tells.tokens.2;
+    syntax = code;
+    refusal = answer_of (Err (At place code)) e;
+    rule = is;
+  }
+
+-- ---- the answers
+
+-- of an accepted file
+pub accepted_as : (told : Option FileMap) (failed : Type 0) (def : Text) (v : Vec ℕ Global)
+    → TellsBytes told def (Ok v) → length v.items ≤ file_limit → IsDefinition v.items
+    → IfSome told (λ m. MayAnswer m failed (Some (Check def)) (said def Accepted))
+accepted_as None failed def v h le d = tt
+accepted_as (Some m) failed def v h le d = inl (rw h (inr (le, inl (d, refl))))
+
+-- of a refused file
+pub refused_as : (told : Option FileMap) (failed : Type 0) (def : Text) (v : Vec ℕ Global)
+    (r : Refusal)
+    → TellsBytes told def (Ok v) → length v.items ≤ file_limit → Shows v.items r
+    → IfSome told (λ m. MayAnswer m failed (Some (Check def)) (said def (RefusedFor r)))
+refused_as None failed def v r h le s = tt
+refused_as (Some m) failed def v r h le s =
+    inl (rw h (inr (le, inr (s.at, r.code, s.refused, rw (s.line, s.column) refl))))
+
+-- of a file that is too long
+pub too_long_as : (told : Option FileMap) (failed : Type 0) (def : Text)
+    → TellsBytes told def (Err InputLimit)
+    → IfSome told (λ m. MayAnswer m failed (Some (Check def)) (said def TooLong))
+too_long_as None failed def h = tt
+too_long_as (Some m) failed def h = inl (rw h.1 (inl (h.2, refl)))
+
+-- a read fault is what a file gets that the map lacks, and what another may get where reading
+-- failed by itself
+faults_by : (def : Text) (steady : Bool) (before now : ℕ) (m : FileMap) (found : Option Text)
+    → m def ≡ found → (IsTrue steady → m def ≡ None) → Rose before now
+    → MayAnswer m (FaultsByItself steady before now) (Some (Check def)) (read_fault def)
+faults_by def steady before now m None e lacks rose = inl (rw e refl)
+faults_by def true before now m (Some src) e lacks rose =
+    let n : m def ≡ None = lacks refl in absurd (cc)
+faults_by def false before now m (Some src) e lacks rose =
+    inr ((refl, rose), record { name = def; named = (0, omega arith, refl); is = refl })
+
+-- of a file that couldn't be read
+pub unreadable_as : (told : Option FileMap) (def : Text) (steady : Bool) (before now : ℕ)
+    → (IsTrue steady → Lacks told def) → Rose before now
+    → IfSome told (λ m. MayAnswer m (FaultsByItself steady before now)
+    (Some (Check def)) (said def Unreadable))
+unreadable_as None def steady before now lacks rose = tt
+unreadable_as (Some m) def steady before now lacks rose =
+    faults_by def steady before now m (m def) refl lacks rose
+
+pub ruleset judging = (accepted_as, refused_as, too_long_as, unreadable_as)

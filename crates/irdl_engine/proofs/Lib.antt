@@ -1,0 +1,4 @@
+pub mod Appending
+pub mod Given
+pub mod Judging
+pub mod Whole

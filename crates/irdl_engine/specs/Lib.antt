@@ -1,0 +1,8 @@
+pub mod Answer
+pub mod Codes
+pub mod Command
+pub mod Judged
+pub mod Numbers
+pub mod Said
+pub mod Words
+pub mod Writes

@@ -1,0 +1,94 @@
+//! The line that standard error gets.
+
+ghost use Rattle.std.specs.Prelude.{◌≡◌, ◌≤◌, ◌⊎◌};
+ghost use Rattle.std.specs.List.{flat_map};
+ghost use Rattle.irdl_bytes.specs.Outside.{Rose};
+ghost use Rattle.irdl_engine.specs.Answer.{usage, refused};
+ghost use Rattle.irdl_engine.specs.Said.{said};
+ghost use Rattle.irdl_engine.specs.Writes.{Says, change};
+
+use crate::outcome::{Outcome, Refusal};
+use crate::pieces::write_pieces;
+use crate::status::Status;
+use irdl_bytes::Sink;
+use itoa::Buffer;
+
+/// The line for words that fit no form.
+const USAGE: &str = "usage: irdl_opt check DEF.. | verify MODULE DEF.. \
+    | print generic MODULE DEF.. | print custom MODULE DEF.. | soak N\n";
+
+/// Writes a line, and answers with this status or with a write fault.
+fn say<S: Sink>(err: &mut S, status: Status, pieces: &[&[u8]]) -> Status
+    ensures says { Says status (flat_map (λ p. p.now) pieces.now) result
+        (change (S.written err.old) (S.written err.new)) }
+    ensures fault { result ≡ Status.WriteFault →
+        (status ≡ Status.WriteFault) ⊎ Rose (S.faults err.old) (S.faults err.new) }
+    ensures later { S.faults err.old ≤ S.faults err.new }
+{
+    match write_pieces(err, pieces) {
+        Ok(()) => status,
+        Err(_) => Status::WriteFault,
+    }
+}
+
+/// Writes the usage line.
+pub fn report_usage<S: Sink>(err: &mut S) -> Status
+    ensures says { Says usage.status usage.err result
+        (change (S.written err.old) (S.written err.new)) }
+    ensures fault { result ≡ Status.WriteFault → Rose (S.faults err.old) (S.faults err.new) }
+    ensures later { S.faults err.old ≤ S.faults err.new }
+{
+    say(err, Status::Usage, &[USAGE.as_bytes()])
+}
+
+/// Writes the line of the outcome of a file, if it has one.
+pub fn report<S: Sink>(err: &mut S, name: &str, outcome: &Outcome) -> Status
+    ensures says { Says (said name.now outcome.now).status (said name.now outcome.now).err result
+        (change (S.written err.old) (S.written err.new)) }
+    ensures fault { result ≡ Status.WriteFault → Rose (S.faults err.old) (S.faults err.new) }
+    ensures later { S.faults err.old ≤ S.faults err.new }
+{
+    match outcome {
+        Outcome::Accepted => Status::Done,
+        Outcome::Unreadable => say(
+            err,
+            Status::ReadFault,
+            &["read fault: ".as_bytes(), name.as_bytes(), "\n".as_bytes()],
+        ),
+        Outcome::TooLong => say(
+            err,
+            Status::InputLimit,
+            &["input limit: ".as_bytes(), name.as_bytes(), "\n".as_bytes()],
+        ),
+        Outcome::Refused(refusal) => report_refusal(err, name, refusal),
+    }
+}
+
+/// Writes the line of a refusal.
+fn report_refusal<S: Sink>(err: &mut S, name: &str, refusal: &Refusal) -> Status
+    ensures says { let a = refused name.now refusal.now.place.line refusal.now.place.column
+        refusal.now.code in
+        Says a.status a.err result (change (S.written err.old) (S.written err.new)) }
+    ensures fault { result ≡ Status.WriteFault → Rose (S.faults err.old) (S.faults err.new) }
+    ensures later { S.faults err.old ≤ S.faults err.new }
+{
+    let mut line = Buffer::new();
+    let mut column = Buffer::new();
+    let mut number = Buffer::new();
+    say(
+        err,
+        Status::DefinitionRefused,
+        &[
+            name.as_bytes(),
+            ":".as_bytes(),
+            line.format(refusal.place.line).as_bytes(),
+            ":".as_bytes(),
+            column.format(refusal.place.column).as_bytes(),
+            ": error ".as_bytes(),
+            number.format(refusal.code.number()).as_bytes(),
+            " ".as_bytes(),
+            refusal.code.name().as_bytes(),
+            "\n".as_bytes(),
+        ],
+    )
+}

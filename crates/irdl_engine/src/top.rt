@@ -1,0 +1,95 @@
+//! The one call that does all that the program does.
+
+ghost use Rattle.std.specs.Prelude.{◌≡◌, ◌⊎◌, None, IsTrue, IfSome};
+ghost use Rattle.std.specs.Io.KnownBytes.{Keeps};
+ghost use Rattle.irdl_bytes.specs.Outside.{Rose, FaultsByItself};
+ghost use Rattle.irdl_engine.specs.Command.{command_of};
+ghost use Rattle.irdl_engine.specs.Answer.{Answer, Obeys, Accepted, usage};
+ghost use Rattle.irdl_engine.specs.Words.{texts};
+ghost use Rattle.irdl_engine.specs.Writes.{MayGive, Says, change};
+
+use crate::check::check;
+use crate::command::{Command, read_command};
+use crate::report::report_usage;
+use crate::status::Status;
+use irdl_bytes::{Files, Sink};
+use std::alloc::Global;
+
+// As `run`, without what follows from it.
+#[tactic(auto, using(crate::proofs::Given::giving))]
+fn obey<F: Files, O: Sink, E: Sink>(
+    alloc: Global,
+    words: &[&str],
+    files: &mut F,
+    out: &mut O,
+    err: &mut E,
+) -> Status
+    ensures planned { IfSome (F.file_map files.old) (λ m.
+        MayGive m (FaultsByItself (F.steady files.old) (F.faults files.old) (F.faults files.new))
+        (command_of (texts words.now)) result
+        (change (O.written out.old) (O.written out.new))
+        (change (E.written err.old) (E.written err.new))) }
+    ensures no_command { command_of (texts words.now) ≡ None →
+        Says usage.status usage.err result (change (E.written err.old) (E.written err.new)) }
+    ensures usage { result ≡ Status.Usage → command_of (texts words.now) ≡ None }
+    ensures read_fault { result ≡ Status.ReadFault →
+        Rose (F.faults files.old) (F.faults files.new) }
+    ensures write_fault { result ≡ Status.WriteFault →
+        Rose (O.faults out.old) (O.faults out.new) ⊎ Rose (E.faults err.old) (E.faults err.new) }
+    ensures silent { Keeps (O.written out.old) (O.written out.new) }
+    ensures untouched { O.faults out.new ≡ O.faults out.old }
+{
+    match read_command(words) {
+        None => report_usage(err),
+        Some(Command::Check(def)) => check(alloc, def, files, out, err),
+    }
+}
+
+/// Does what the words ask for, and writes what is to be written.
+///
+/// The words are those behind the program's name. Standard output is `out`, standard error `err`.
+#[tactic(auto, using(crate::proofs::Whole::whole))]
+pub fn run<F: Files, O: Sink, E: Sink>(
+    alloc: Global,
+    words: &[&str],
+    files: &mut F,
+    out: &mut O,
+    err: &mut E,
+) -> Status
+    // What is answered and written, for files that tell their bytes.
+    ensures planned { IfSome (F.file_map files.old) (λ m.
+        MayGive m (FaultsByItself (F.steady files.old) (F.faults files.old) (F.faults files.new))
+        (command_of (texts words.now)) result
+        (change (O.written out.old) (O.written out.new))
+        (change (E.written err.old) (E.written err.new))) }
+
+    // The words and the bytes told leave no choice of what is to be answered.
+    ensures single { IfSome (F.file_map files.old) (λ m. (a b : Answer) →
+        Obeys m (command_of (texts words.now)) a →
+        Obeys m (command_of (texts words.now)) b → a ≡ b) }
+
+    // Told or not, the usage line is written exactly for words that are no command.
+    ensures no_command { command_of (texts words.now) ≡ None →
+        Says usage.status usage.err result (change (E.written err.old) (E.written err.new)) }
+    ensures usage { result ≡ Status.Usage → command_of (texts words.now) ≡ None }
+
+    // A fault is answered only where one was counted in this call.
+    ensures read_fault { result ≡ Status.ReadFault →
+        Rose (F.faults files.old) (F.faults files.new) }
+    ensures write_fault { result ≡ Status.WriteFault →
+        Rose (O.faults out.old) (O.faults out.new) ⊎ Rose (E.faults err.old) (E.faults err.new) }
+
+    // Faults and want of memory aside, an accepted file is accepted.
+    ensures complete { IfSome (F.file_map files.old) (λ m.
+        Accepted m (command_of (texts words.now)) →
+        IsTrue (F.steady files.old) ⊎ ¬ Rose (F.faults files.old) (F.faults files.new) →
+        ¬ Rose (O.faults out.old) (O.faults out.new) →
+        ¬ Rose (E.faults err.old) (E.faults err.new) →
+        (result ≡ Status.Done) ⊎ (result ≡ Status.OutOfMemory)) }
+
+    // Standard output gets nothing and isn't tried, whatever the status.
+    ensures silent { Keeps (O.written out.old) (O.written out.new) }
+    ensures untouched { O.faults out.new ≡ O.faults out.old }
+{
+    obey(alloc, words, files, out, err)
+}
