@@ -1,5 +1,5 @@
 #!/usr/bin/env python3
-"""Times `irdl_opt check` on 16 MiB of definitions. It builds nothing.
+"""Times `irdl_opt check` on large definition files. It builds nothing.
 
 usage: bench/check.py [PROGRAM]     PROGRAM is the built program; by default that of this repository
 """
@@ -30,6 +30,24 @@ def operations(file):
     file.write(b" " * (SIZE - length))
 
 
+def many_operations(file):
+    """One dialect of 100,000 operations, each with an operand and a result."""
+    file.write(b"irdl.dialect @a {\n")
+    for number in range(100_000):
+        body = b"%0 = irdl.any irdl.operands(x: %0) irdl.results(y: %0)"
+        file.write(b"  irdl.operation @o%d { %s }\n" % (number, body))
+    file.write(b"}\n")
+
+
+def many_names(file):
+    """One operation of 60,000 value names, of which each is an operand with a name of its own."""
+    file.write(b"irdl.dialect @a { irdl.operation @o {\n")
+    for number in range(60_000):
+        file.write(b"%%v%d = irdl.any\n" % number)
+    entries = b", ".join(b"x%d: %%v%d" % (number, number) for number in range(60_000))
+    file.write(b"irdl.operands(%s) } }\n" % entries)
+
+
 def spaces(file):
     """Layout alone, which is refused at its end."""
     for _ in range(SIZE // 4096):
@@ -49,19 +67,25 @@ def measure(program, path, status):
     return best, resource.getrusage(resource.RUSAGE_CHILDREN).ru_maxrss / 1024
 
 
+# Each file with its status, in the order of their memory, since the peak is that of all runs so far.
+FILES = [(spaces, 1), (many_names, 0), (many_operations, 0), (operations, 0)]
+
+
 def main():
     here = os.path.dirname(os.path.abspath(__file__))
     program = sys.argv[1] if len(sys.argv) > 1 else os.path.join(here, "../crates/irdl_opt/out/irdl_opt")
     if not os.access(program, os.X_OK):
         sys.exit(f"{program} isn't built: run ./irdl_opt once")
-    print("file              status   seconds      MB/s   peak MB")
+    print("file                  bytes status   seconds     MB/s  peak MB")
     with tempfile.TemporaryDirectory() as folder:
-        for name, write, status in [("spaces", spaces, 1), ("operations", operations, 0)]:
+        for write, status in FILES:
+            name = write.__name__
             path = os.path.join(folder, name)
             with open(path, "wb") as file:
                 write(file)
+            size = os.path.getsize(path)
             seconds, memory = measure(program, path, status)
-            print(f"{name:16} {status:7} {seconds:9.3f} {SIZE / seconds / 1e6:9.1f} {memory:9.1f}")
+            print(f"{name:16} {size:10} {status:6} {seconds:9.3f} {size / seconds / 1e6:8.1f} {memory:8.1f}")
 
 
 if __name__ == "__main__":

@@ -9,6 +9,10 @@ use Rattle.generic_syntax.specs.declared.cst.ValueNode.TheVariants as node
 unfoldable pub name_of : Token → NameCst
 name_of t = record { place = t.place; name = name_bytes t.text }
 
+-- a word that is a name
+unfoldable pub word_name : Token → NameCst
+word_name t = record { place = t.place; name = t.text }
+
 -- a type that is one word
 unfoldable pub word_type : Token → ValueCst
 word_type t = roll-ValueCst (record { place = t.place; node = node.Word t.text })

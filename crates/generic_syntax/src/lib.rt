@@ -11,7 +11,7 @@ mod word;
 
 pub use cst::{EntryCst, ItemCst, NameCst, ValueCst, ValueNode};
 pub use grammar::{SyntaxCode, SyntaxStop};
-pub use name::read_name;
+pub use name::{read_name, read_word};
 pub use word::read_integer_type;
 
 #[cfg(test)]

@@ -3,7 +3,7 @@
 ghost use Rattle.std.specs.Prelude.{◌≢◌};
 ghost use Rattle.grammar.specs.Looks.{any_of, passes};
 ghost use Rattle.grammar.specs.Ran.{Took};
-ghost use Rattle.generic_syntax.specs.Names.{name_of};
+ghost use Rattle.generic_syntax.specs.Names.{name_of, word_name};
 
 use crate::cst::NameCst;
 use attr_value::Text;
@@ -24,5 +24,15 @@ pub fn read_name<T: TokenSource>(
     let place = t.place();
     let name = Text::from_vec(name_bytes(alloc, t.text())?);
     expect(t, kind)?;
+    Ok(NameCst { place, name })
+}
+
+/// Takes a word that is a name. Any other token is refused.
+pub fn read_word<T: TokenSource>(alloc: Global, t: &mut T) -> Result<NameCst, SyntaxStop>
+    ensures { Took (passes (any_of Class.Word)) word_name (T.state t.old) result (T.state t.new) }
+{
+    let place = t.place();
+    let name = Text::from_slice(alloc, t.text())?;
+    expect(t, Class::Word)?;
     Ok(NameCst { place, name })
 }

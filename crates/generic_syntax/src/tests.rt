@@ -22,6 +22,29 @@ fn a_name_has_its_place_and_the_bytes_behind_its_sign(rt: HostRuntime) -> Result
 }
 
 #[test]
+fn a_word_that_is_a_name_has_its_place_and_its_bytes(rt: HostRuntime) -> Result<(), SyntaxStop> {
+    let mut tokens = SliceTokens::new(b" x a.b %x");
+    for (place, bytes) in [(1, "x"), (3, "a.b")] {
+        let name = read_word(rt.alloc(), &mut tokens)?;
+        assert_eq!(rt; name.place, place);
+        assert_eq!(rt; name.name.bytes(), bytes.as_bytes());
+    }
+    let stop = SyntaxStop::At {
+        place: 7,
+        code: SyntaxCode::Syntax,
+    };
+    assert_eq!(rt; read_word(rt.alloc(), &mut tokens).err(), Some(stop));
+    let mut last = SliceTokens::new(b"x");
+    read_word(rt.alloc(), &mut last)?;
+    let stop = SyntaxStop::At {
+        place: 1,
+        code: SyntaxCode::Syntax,
+    };
+    assert_eq!(rt; read_word(rt.alloc(), &mut last).err(), Some(stop));
+    Ok(())
+}
+
+#[test]
 fn an_integer_type_is_its_word(rt: HostRuntime) -> Result<(), SyntaxStop> {
     let mut tokens = SliceTokens::new(b" i32 ui8 index");
     for (place, word) in [(1, "i32"), (5, "ui8")] {

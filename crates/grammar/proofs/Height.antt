@@ -13,22 +13,22 @@ each_in R S h ts (b ∷ bs) (front, back, is, r, more) =
     (front, back, is, h front b r, each_in R S h back bs more)
 
 -- and so is a row of heads and bodies
-pub links_in : {B C D I : Type 0} (p : B → C → I) (q : B → D → I) (H H2 : Tokens → B → Type 0)
-    (K K2 : Tokens → C → Type 0) (L L2 : Tokens → D → Type 0)
-    → ((ts : Tokens) (b : B) → H ts b → H2 ts b) → ((ts : Tokens) (c : C) → K ts c → K2 ts c)
-    → ((ts : Tokens) (d : D) → L ts d → L2 ts d)
-    → (ts : Tokens) (is : List I) → Links p q H K L ts is → Links p q H2 K2 L2 ts is
-links_in p q H H2 K K2 L L2 hh kk ll ts [] x = x
-links_in p q H H2 K K2 L L2 hh kk ll ts (i ∷ is)
+pub links_in : {B C D I : Type 0} (p : B → C → I) (q : B → D → I) (H H' : Tokens → B → Type 0)
+    (K K' : Tokens → C → Type 0) (L L' : Tokens → D → Type 0)
+    → ((ts : Tokens) (b : B) → H ts b → H' ts b) → ((ts : Tokens) (c : C) → K ts c → K' ts c)
+    → ((ts : Tokens) (d : D) → L ts d → L' ts d)
+    → (ts : Tokens) (is : List I) → Links p q H K L ts is → Links p q H' K' L' ts is
+links_in p q H H' K K' L L' hh kk ll ts [] x = x
+links_in p q H H' K K' L L' hh kk ll ts (i ∷ is)
     (front, back, b, e, h, inl (mid, rest, c, e2, k, more, ei)) = (
       front,
       back,
       b,
       e,
       hh front b h,
-      inl (mid, rest, c, e2, kk mid c k, links_in p q H H2 K K2 L L2 hh kk ll rest is more, ei),
+      inl (mid, rest, c, e2, kk mid c k, links_in p q H H' K K' L L' hh kk ll rest is more, ei),
     )
-links_in p q H H2 K K2 L L2 hh kk ll ts (i ∷ is) (front, back, b, e, h, inr (d, l, en, ei)) =
+links_in p q H H' K K' L L' hh kk ll ts (i ∷ is) (front, back, b, e, h, inr (d, l, en, ei)) =
     (front, back, b, e, hh front b h, inr (d, ll back d l, en, ei))
 
 -- what is derived stays so where the nonterminals derive more

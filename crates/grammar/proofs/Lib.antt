@@ -14,6 +14,7 @@ pub mod Unique
 pub mod Kept
 pub mod Runs
 pub mod Repeats
+pub mod Lists
 pub mod Fronts
 pub mod FlatReads
 pub mod Wholes

@@ -21,7 +21,7 @@ use Rattle.ir_lexer.specs.Tokens.{Token}
 use Rattle.grammar.specs.declared.stop.SyntaxStop.{SyntaxStop}
 use Rattle.grammar.specs.declared.stop.SyntaxStop.TheVariants.{At, Failed, OutOfMemory}
 use Rattle.grammar.specs.Looks.{Look, passes}
-use Rattle.grammar.specs.Grammar.{Tokens, Parser, Outcome, done, stop, and_then, ◌>>=◌, pure, read_tok, G, tok, both, alt, made, nullable, starts}
+use Rattle.grammar.specs.Grammar.{Tokens, Parser, Outcome, done, stop, and_then, ◌>>=◌, pure, read_tok, G, ret, tok, both, alt, made, placed, nullable, starts}
 use Rattle.grammar.specs.Ran.{Ran, Gives, HasCause, GoesOn, handed_on, code_by_class, Env, reads_in, size, Took, Reads, RefusesBy}
 use Rattle.grammar.proofs.Kept.{kept_same, kept_then, kept_err, kept_ok, any_failed, any_memory}
 
@@ -280,6 +280,12 @@ few_alt true false = (omega arith, omega arith)
 few_alt false true = (omega arith, omega arith)
 few_alt false false = (omega arith, omega arith)
 
+-- a piece with its place
+placed_told : {A B : Type 0} (f : ℕ → B → A) (p : ℕ) (o : Outcome B) (b : B) (s : Source)
+    → Gives o (Ok b) s → Gives (and_then o (λ b. pure (f p b))) (Ok (f p b)) s
+placed_told f p (done c rest) b s g = (ap (λ y. f p y) g.0, g.1)
+placed_told f p (stop d rest) b s g = absurd g
+
 module _ {X : Type 0} {Sem : X → Type 0} {e : Env X Sem} where
   -- a token is a piece of its own
   pub at_tok : {A : Type 0} {look : Look} {f : Token → A} {s s' : Source} {r : Result A SyntaxStop}
@@ -363,3 +369,32 @@ module _ {X : Type 0} {Sem : X → Type 0} {e : Env X Sem} where
   unfolding reads_in
   made_err {g = g} {why = why} {s = s} {s' = s'} x =
       record { ran = bind_err (size g) _ (reads_in e g) _ why s s' x.ran }
+
+  -- nothing is read
+  pub at_ret : {A : Type 0} {a : A} {s : Source} → Reads e (ret a) s (Ok a) s
+  unfolding reads_in
+  at_ret {a = a} {s = s} = record { ran = pure_ran a s }
+
+  -- a piece with its place is read
+  pub placed_ok : {A B : Type 0} {f : ℕ → B → A} {g : G X Sem B} {b : B} {s s' : Source}
+      → Reads e g s (Ok b) s' → Reads e (placed f g) s (Ok (f s.now.place b)) s'
+  unfolding reads_in
+  placed_ok {f = f} {g = g} {b = b} {s = s} {s' = s'} x = record {
+    ran = record {
+      kept = kept_ok (f s.now.place b) x.ran.kept;
+      less = x.ran.less;
+      told = λ ts is. placed_told f s.now.place (reads_in e g (s.now ∷ ts)) b s' (x.ran.told ts is);
+    };
+  }
+
+  -- a piece with its place is not
+  pub placed_err : {A B : Type 0} {f : ℕ → B → A} {g : G X Sem B} {why : SyntaxStop} {s s' : Source}
+      → Reads e g s (Err why) s' → Reads e (placed f g) s (Err why) s'
+  unfolding reads_in
+  placed_err {f = f} {g = g} {why = why} {s = s} {s' = s'} x = record {
+    ran = record {
+      kept = kept_err x.ran.kept;
+      less = tt;
+      told = λ ts is. err_told (reads_in e g (s.now ∷ ts)) _ why s' (x.ran.told ts is);
+    };
+  }

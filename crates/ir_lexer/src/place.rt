@@ -13,17 +13,17 @@ pub struct LineCol {
 }
 
 /// The line and the column of a place in a text. A line ends behind its line feed, and a column
-/// counts bytes, not characters. A place is in bytes from 0, and the end of the text is one too.
+/// counts bytes, not characters. A place is in bytes from 0; one behind the end is taken as the end.
 #[tactic(auto, using(crate::proofs::Columns::columns))]
 pub fn line_col(src: &[u8], at: u32) -> LineCol
     requires size { length src.now ≤ TEXT_LIMIT }
-    requires within { at ≤ length src.now }
     ensures line { result.line ≡ line_at src.now at }
     ensures column { result.column ≡ column_at src.now at }
 {
     let mut line = 1;
     let mut column = 1;
-    for b in &src[..at as usize] {
+    let before = src.len().min(at as usize);
+    for b in &src[..before] {
         if *b == b'\n' {
             line += 1;
             column = 1;

@@ -1,5 +1,5 @@
 -- From what was judged and what was said to what is given.
-use Rattle.std.proofs.Common.{◌≡◌, inl, inr, [], refl, rules}
+use Rattle.std.proofs.Common.{◌≡◌, ◌⊎◌, inl, inr, [], refl, rules}
 use Rattle.std.specs.Prelude.{IfSome}
 use Rattle.std.specs.declared.option.Option.{Option}
 use Rattle.std.specs.declared.option.Option.TheVariants.{Some, None}
@@ -7,10 +7,11 @@ use Rattle.std.specs.Io.KnownBytes.{Appends, Keeps}
 use Rattle.irdl_bytes.specs.Outside.{FileMap, AppendsPrefix}
 use Rattle.ir_lexer.specs.Spelling.{Text}
 use Rattle.irdl_engine.specs.declared.status.Status.{Status}
-use Rattle.irdl_engine.specs.declared.status.Status.TheVariants.{OutOfMemory}
+use Rattle.irdl_engine.specs.declared.status.Status.TheVariants.{OutOfMemory, WriteFault}
 use Rattle.irdl_engine.specs.Answer.{Answer, MayAnswer, usage}
 use Rattle.irdl_engine.specs.Command.{Command}
 use Rattle.irdl_engine.specs.Writes.{Change, change, Says, GivesAll, GivesFronts, MayGive}
+use Rattle.irdl_engine.proofs.Lines.{usage_has}
 
 -- a line that stands for another
 pub says_as : (s s' r : Status) (t t' : Text) (e : Change)
@@ -35,25 +36,29 @@ kept (Some bs) = refl
 -- an answer that has nothing for standard output, of which the line was said
 pub gives_said : (m : FileMap) (failed : Type 0) (command : Option Command) (a : Answer)
     (status : Status) (out : Option Text) (err : Change)
-    → MayAnswer m failed command a → a.out ≡ [] → Says a.status a.err status err
+    → MayAnswer m failed command a → a.out ≡ [] → (a.err ≡ [] → status ≡ WriteFault → ⊥)
+    → Says a.status a.err status err
     → MayGive m failed command status (change out out) err
-gives_said m failed command a status out err may none (inl h) =
+gives_said m failed command a status out err may none quiet (inl h) =
     let all : GivesAll a status (change out out) err =
     record { status_is = h.0; out_got = rw none (got_nothing out); err_got = h.1 } in
     inl (record { answer = a; planned = may; given = inl all })
-gives_said m failed command a status out err may none (inr h) =
+gives_said m failed command a status out err may none quiet (inr h) =
+    let has : (a.out ≡ [] → ⊥) ⊎ (a.err ≡ [] → ⊥) = inr (λ e. quiet e h.0) in
+    let got = got_front_of_all out a.out in
     let fronts : GivesFronts a status (change out out) err =
-    record { status_is = h.0; out_got = got_front_of_all out a.out; err_got = h.1 } in
+    record { status_is = h.0; has_bytes = has; out_got = got; err_got = h.1 } in
     inl (record { answer = a; planned = may; given = inr fronts })
 
 -- the same, where the files may tell their bytes
 pub said_given : (told : Option FileMap) (failed : Type 0) (command : Option Command) (a : Answer)
     (status : Status) (out : Option Text) (err : Change)
-    → IfSome told (λ m. MayAnswer m failed command a) → a.out ≡ [] → Says a.status a.err status err
+    → IfSome told (λ m. MayAnswer m failed command a) → a.out ≡ []
+    → (a.err ≡ [] → status ≡ WriteFault → ⊥) → Says a.status a.err status err
     → IfSome told (λ m. MayGive m failed command status (change out out) err)
-said_given None failed command a status out err may none h = tt
-said_given (Some m) failed command a status out err may none h =
-    gives_said m failed command a status out err may none h
+said_given None failed command a status out err may none quiet h = tt
+said_given (Some m) failed command a status out err may none quiet h =
+    gives_said m failed command a status out err may none quiet h
 
 -- want of memory, where nothing was written
 pub gives_up : (told : Option FileMap) (failed : Type 0) (command : Option Command)
@@ -70,6 +75,7 @@ pub usage_given : (told : Option FileMap) (failed : Type 0) (command : Option Co
     → IfSome told (λ m. MayGive m failed command status (change out out) err)
 usage_given None failed command status out err e h = tt
 usage_given (Some m) failed command status out err e h =
-    gives_said m failed command usage status out err (inl (rw (← e) refl)) refl h
+    gives_said m failed command usage status out err (inl (rw (← e) refl)) refl
+    (λ none _. usage_has none) h
 
 pub ruleset giving = (said_given, gives_up, usage_given, kept)

@@ -4,7 +4,8 @@
 -- read or refused of the text. A file that is not read is a read fault or too long.
 use Rattle.std.proofs.Common.{◌≡◌, ◌≤◌, inl, inr, [], ◌∷◌, ◌++◌, ℕ, length}
 use Rattle.std.proofs.Common.{true, false, refl, ◌∙◌, ap, subst, append_assoc, arith}
-use Rattle.std.specs.Prelude.{IfSome, IsTrue, Bool}
+use Rattle.std.specs.Prelude.{IfSome, IfOk, IsTrue, Bool}
+use Rattle.std.specs.declared.alloc.AllocError.{AllocError}
 use Rattle.std.specs.declared.option.Option.{Option}
 use Rattle.std.specs.declared.option.Option.TheVariants.{Some, None}
 use Rattle.std.specs.declared.result.Result.{Result}
@@ -17,53 +18,41 @@ use Rattle.irdl_bytes.specs.declared.whole.ReadError.TheVariants.{InputLimit}
 use Rattle.ir_lexer.specs.Source.{Source}
 use Rattle.ir_lexer.specs.Slice.{Tells}
 use Rattle.ir_lexer.specs.Spelling.{Text}
-use Rattle.ir_lexer.specs.Tokens.{Token, Tokens as AreTokens}
-use Rattle.ir_lexer.proofs.Once.{end_is_last, placed_within}
+use Rattle.ir_lexer.specs.Tokens.{Tokens as AreTokens}
+use Rattle.ir_lexer.proofs.Once.{end_is_last}
 use Rattle.grammar.specs.declared.stop.SyntaxCode.{SyntaxCode}
 use Rattle.grammar.specs.declared.stop.SyntaxStop.{SyntaxStop}
 use Rattle.grammar.specs.declared.stop.SyntaxStop.TheVariants.{At}
-use Rattle.grammar.specs.Answers.{Told, Answered, IsRefusal}
+use Rattle.grammar.specs.Answers.{Told, Answered}
 use Rattle.grammar.specs.Front.{Front}
 use Rattle.grammar.specs.Grammar.{Tokens}
 use Rattle.irdl_ops.specs.declared.raw.RawDefs.{RawDefs}
 use Rattle.irdl_ops.specs.Definitions.{DefText, TooDeepDef}
 use Rattle.irdl_ops.proofs.Files.{file_ends, front_file}
-use Rattle.irdl_engine.specs.declared.code.DefCode.{DefCode}
+use Rattle.dialect_registry.specs.declared.code.DefCode.{DefCode}
+use Rattle.dialect_registry.specs.declared.code.DefFault.{DefFault}
+use Rattle.dialect_registry.specs.NameFaults.{IsFault, IsFirst}
 use Rattle.irdl_engine.specs.declared.outcome.Outcome.TheVariants.{Accepted, Unreadable, TooLong}
 use Rattle.irdl_engine.specs.declared.outcome.Outcome.TheVariants.{Refused as RefusedFor}
 use Rattle.irdl_engine.specs.declared.outcome.Refusal.{Refusal}
 use Rattle.irdl_engine.specs.Answer.{MayAnswer, read_fault}
 use Rattle.irdl_engine.specs.Command.{Check}
-use Rattle.irdl_engine.specs.Judged.{IsDefinition, IsRefusedAt, rule_of}
+use Rattle.irdl_engine.specs.Judged.{Spells, IsDefinition, IsRefusedAt, rule_of}
+use Rattle.irdl_engine.specs.Said.{StandsAt, IsVerdict}
 use Rattle.irdl_engine.specs.Said.{said, Shows}
 
 -- ---- the tokens of a text
 
 -- a front of all tokens of a text that is a file takes all of them
-definition_of : (src : Text) (ts : Tokens) (d : RawDefs) (rest : Tokens)
-    → AreTokens src ts → Front DefText TooDeepDef ts d rest → IsDefinition src
-definition_of src ts d rest all f =
+front_spells : (src : Text) (ts : Tokens) (d : RawDefs) (rest : Tokens)
+    → AreTokens src ts → Front DefText TooDeepDef ts d rest → Spells src d
+front_spells src ts d rest all f =
     let e = file_ends f.front d f.tree in
     let cut : ts ≡ e.0 ++ e.1 ∷ rest =
     f.is ∙ ap (λ w. w ++ rest) e.2 ∙ append_assoc e.0 (e.1 ∷ []) rest in
     let all_cut = subst (λ (w : Tokens). AreTokens src w) cut all in
     let none = end_is_last src 0 e.0 e.1 rest all_cut e.3 in
-    record { tokens = ts; are_tokens = all; defs = d; is_file = front_file ts d rest f none }
-
--- a token stands in its text
-cut_within : (src : Text) (ts front : Tokens) (t : Token) (rest : Tokens)
-    → AreTokens src ts → ts ≡ front ++ t ∷ rest → t.place ≤ length src
-cut_within src ts front t rest all is =
-    let all_cut = subst (λ (w : Tokens). AreTokens src w) is all in
-    placed_within src 0 front t rest (omega arith) all_cut
-
--- so does a refusal
-refusal_within : (src : Text) (ts : Tokens) (place : ℕ) (code : SyntaxCode)
-    → AreTokens src ts → IsRefusal DefText TooDeepDef ts place code → place ≤ length src
-refusal_within src ts place code all (t, rest, at, inl (x, k)) =
-    let w = cut_within src ts x.front t rest all x.is in rw at w
-refusal_within src ts place code all (t, rest, at, inr (x, k)) =
-    let w = cut_within src ts x.front t rest all x.is in rw at w
+    record { tokens = ts; are_tokens = all; is_file = front_file ts d rest f none }
 
 module _ (s : Source) (src : Text) (r : Result RawDefs SyntaxStop) (tells : Tells s src)
     (told : Told s (λ ts. Answered DefText TooDeepDef ts r)) where
@@ -74,28 +63,46 @@ module _ (s : Source) (src : Text) (r : Result RawDefs SyntaxStop) (tells : Tell
       let right = told tells.tokens.0 tells.tokens.1 in
       subst (Answered DefText TooDeepDef (s.now ∷ tells.tokens.0)) e right
 
-  -- what is read of a text's tokens is a definition file
-  pub told_accepted : (d : RawDefs) → r ≡ Ok d → IsDefinition src
-  told_accepted d e =
+  -- what is read of a text's tokens is what the text spells
+  pub told_spells : (d : RawDefs) → r ≡ Ok d → Spells src d
+  told_spells d e =
       let read = answer_of (Ok d) e in
-      definition_of src (s.now ∷ tells.tokens.0) d read.0 tells.tokens.2 read.1
-
-  -- a refusal stands in the text
-  pub told_within : (place : ℕ) (code : SyntaxCode) → r ≡ Err (At place code) → place ≤ length src
-  told_within place code e =
-      let refusal = answer_of (Err (At place code)) e in
-      refusal_within src (s.now ∷ tells.tokens.0) place code tells.tokens.2 refusal
+      front_spells src (s.now ∷ tells.tokens.0) d read.0 tells.tokens.2 read.1
 
   -- what is refused of the tokens is refused of the text
   pub told_refused : (place : ℕ) (code : SyntaxCode) (rule : DefCode)
       → r ≡ Err (At place code) → rule ≡ rule_of code → IsRefusedAt src place rule
-  told_refused place code rule e is = record {
+  told_refused place code rule e is = inl (record {
     tokens = s.now ∷ tells.tokens.0;
     are_tokens = tells.tokens.2;
     syntax = code;
     refusal = answer_of (Err (At place code)) e;
     rule = is;
-  }
+  })
+
+-- what is judged of a text that spells a file is judged of the text
+pub judged_as : (src : Text) (d : RawDefs) (r : Result (Option Refusal) AllocError)
+    → IfOk r (λ verdict. Spells src d → IsVerdict src verdict) → Spells src d
+    → IfOk r (λ verdict. IsVerdict src verdict)
+judged_as src d (Ok verdict) h spells = h spells
+judged_as src d (Err e) h spells = tt
+
+-- a text whose names have no fault is a definition file
+pub names_pass : (src : Text) (d : RawDefs) (found : Option DefFault)
+    → IsFirst (IsFault d) found → found ≡ None → Spells src d → IsVerdict src None
+names_pass src d found first e spells =
+    record { defs = d; spells = spells; faultless = subst (IsFirst (IsFault d)) e first }
+
+-- a text whose names have a fault is refused for the first
+pub names_fail : (src : Text) (d : RawDefs) (found : Option DefFault) (f : DefFault) (r : Refusal)
+    → IsFirst (IsFault d) found → found ≡ Some f → StandsAt src r f.place → r.code ≡ f.code
+    → Spells src d → IsVerdict src (Some r)
+names_fail src d found f r first e stands rule spells =
+    let one : IsFirst (IsFault d) (Some (record { place = f.place; code = r.code })) =
+    rw rule (subst (IsFirst (IsFault d)) e first) in
+    let refusal : IsRefusedAt src f.place r.code =
+    inr (record { defs = d; spells = spells; first = one }) in
+    record { at = f.place; refused = refusal; stands = stands }
 
 -- ---- the answers
 
@@ -113,7 +120,7 @@ pub refused_as : (told : Option FileMap) (failed : Type 0) (def : Text) (v : Vec
     → IfSome told (λ m. MayAnswer m failed (Some (Check def)) (said def (RefusedFor r)))
 refused_as None failed def v r h le s = tt
 refused_as (Some m) failed def v r h le s =
-    inl (rw h (inr (le, inr (s.at, r.code, s.refused, rw (s.line, s.column) refl))))
+    inl (rw h (inr (le, inr (s.at, r.code, s.refused, rw (s.stands.line, s.stands.column) refl))))
 
 -- of a file that is too long
 pub too_long_as : (told : Option FileMap) (failed : Type 0) (def : Text)

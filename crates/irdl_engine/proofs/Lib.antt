@@ -1,4 +1,5 @@
 pub mod Appending
 pub mod Given
 pub mod Judging
+pub mod Lines
 pub mod Whole

@@ -16,38 +16,74 @@ use Rattle.ir_lexer.proofs.Once.{one_list}
 use Rattle.grammar.specs.Answers.{IsRefusal}
 use Rattle.grammar.specs.Grammar.{Tokens}
 use Rattle.irdl_ops.specs.Definitions.{DefText, TooDeepDef}
-use Rattle.irdl_ops.proofs.Files.{file_not_refused, refused_once}
-use Rattle.irdl_engine.specs.declared.code.DefCode.{DefCode}
+use Rattle.irdl_ops.specs.declared.raw.RawDefs.{RawDefs}
+use Rattle.irdl_ops.proofs.Files.{file_not_refused, one_file, refused_once}
+use Rattle.dialect_registry.specs.declared.code.DefCode.{DefCode}
+use Rattle.dialect_registry.specs.NameFaults.{IsFault, IsFirst}
+use Rattle.dialect_registry.proofs.Once.{first_once}
 use Rattle.irdl_engine.specs.declared.status.Status.{Status}
-use Rattle.irdl_engine.specs.declared.status.Status.TheVariants.{Done, WriteFault, OutOfMemory}
+use Rattle.irdl_engine.specs.declared.status.Status.TheVariants.{Done, OutOfMemory}
 use Rattle.irdl_engine.specs.Answer.{Answer, Accepted, Judged, Checked, Obeys, MayAnswer}
 use Rattle.irdl_engine.specs.Answer.{done, refused}
 use Rattle.irdl_engine.specs.Command.{Command, Check}
-use Rattle.irdl_engine.specs.Judged.{IsDefinition, IsRefusedAt, rule_of}
+use Rattle.irdl_engine.specs.Judged.{Spells, IsDefinition, IsSyntaxRefusal, IsNameRefusal, IsRefusedAt, rule_of}
 use Rattle.irdl_engine.specs.Writes.{Change, GivesAll, GivesFronts, GivesPlanned, MayGive}
 
 -- ---- one answer
 
+-- what a text spells isn't refused as syntax
+spelled_or_refused : (src : Text) (d : RawDefs) (place : ℕ) (code : DefCode)
+    → Spells src d → IsSyntaxRefusal src place code → ⊥
+spelled_or_refused src d place code x r =
+    let same : r.tokens ≡ x.tokens =
+    one_list src 0 r.tokens x.tokens r.are_tokens x.are_tokens in
+    let refusal = subst (λ (w : Tokens). IsRefusal DefText TooDeepDef w place r.syntax)
+    same r.refusal in
+    file_not_refused x.tokens d place r.syntax x.is_file refusal
+
+-- a text spells one file
+spelled_once : (src : Text) (a b : RawDefs) → Spells src a → Spells src b → a ≡ b
+spelled_once src a b x y =
+    let same : x.tokens ≡ y.tokens =
+    one_list src 0 x.tokens y.tokens x.are_tokens y.are_tokens in
+    let spelled = subst (λ (w : Tokens). DefText w a) same x.is_file.spelled in
+    one_file y.tokens a b spelled y.is_file.spelled
+
 -- a definition file isn't refused
 not_both : (src : Text) (place : ℕ) (code : DefCode)
     → IsDefinition src → IsRefusedAt src place code → ⊥
-not_both src place code d r =
-    let same : r.tokens ≡ d.tokens =
-    one_list src 0 r.tokens d.tokens r.are_tokens d.are_tokens in
-    let refusal = subst (λ (w : Tokens). IsRefusal DefText TooDeepDef w place r.syntax)
-    same r.refusal in
-    file_not_refused d.tokens d.defs place r.syntax d.is_file refusal
+not_both src place code d (inl r) = spelled_or_refused src d.defs place code d.spells r
+not_both src place code d (inr r) =
+    let same : r.defs ≡ d.defs = spelled_once src r.defs d.defs r.spells d.spells in
+    let fault = subst (λ w. IsFault w (record { place = place; code = code })) same r.first.0 in
+    d.faultless (record { place = place; code = code }) fault
 
--- two refusals are at one place, by one rule
-one_place : (src : Text) (p q : ℕ) (c e : DefCode)
-    → IsRefusedAt src p c → IsRefusedAt src q e → (p ≡ q) × (c ≡ e)
-one_place src p q c e x y =
+-- two refusals of syntax are at one place, by one rule
+one_syntax : (src : Text) (p q : ℕ) (c e : DefCode)
+    → IsSyntaxRefusal src p c → IsSyntaxRefusal src q e → (p ≡ q) × (c ≡ e)
+one_syntax src p q c e x y =
     let same : x.tokens ≡ y.tokens =
     one_list src 0 x.tokens y.tokens x.are_tokens y.are_tokens in
     let refusal = subst (λ (w : Tokens). IsRefusal DefText TooDeepDef w p x.syntax)
     same x.refusal in
     let u = refused_once y.tokens p q x.syntax y.syntax refusal y.refusal in
     (u.0, x.rule ∙ ap rule_of u.1 ∙ sym y.rule)
+
+-- two refusals of names are at one place, by one rule
+one_fault : (src : Text) (p q : ℕ) (c e : DefCode)
+    → IsNameRefusal src p c → IsNameRefusal src q e → (p ≡ q) × (c ≡ e)
+one_fault src p q c e x y =
+    let same : x.defs ≡ y.defs = spelled_once src x.defs y.defs x.spells y.spells in
+    let first = subst (λ w. IsFirst (IsFault w) (Some (record { place = p; code = c })))
+    same x.first in
+    first_once (IsFault y.defs) p q c e first y.first
+
+one_place : (src : Text) (p q : ℕ) (c e : DefCode)
+    → IsRefusedAt src p c → IsRefusedAt src q e → (p ≡ q) × (c ≡ e)
+one_place src p q c e (inl x) (inl y) = one_syntax src p q c e x y
+one_place src p q c e (inl x) (inr y) = absurd (spelled_or_refused src y.defs p c y.spells x)
+one_place src p q c e (inr x) (inl y) = absurd (spelled_or_refused src x.defs q e x.spells y)
+one_place src p q c e (inr x) (inr y) = one_fault src p q c e x y
 
 -- the same place and rule give the same answer
 same_refused : (name src : Text) (p q : ℕ) (c e : DefCode) → (p ≡ q) × (c ≡ e)
@@ -101,11 +137,14 @@ accepted_obeys : (m : FileMap) (command : Option Command)
     → Accepted m command → Obeys m command done
 accepted_obeys m command a = rw (a.spells, a.has) (inr (a.within, inl (a.accepted, refl)))
 
+-- where all is well there is nothing to write
 given_done : (a : Answer) (status : Status) (out err : Change)
-    → a ≡ done → (status ≡ WriteFault → ⊥)
-    → GivesAll a status out err ⊎ GivesFronts a status out err → Ends status
-given_done a status out err e fine (inl h) = inl (rw (h.status_is, e) refl)
-given_done a status out err e fine (inr h) = absurd (fine h.status_is)
+    → a ≡ done → GivesAll a status out err ⊎ GivesFronts a status out err → Ends status
+given_done a status out err e (inl h) = inl (rw (h.status_is, e) refl)
+given_done a status out err e (inr h) = elim h.has_bytes [
+  | inl some ↦ absurd (some (ap (λ x. x.out) e))
+  | inr some ↦ absurd (some (ap (λ x. x.err) e))
+]
 
 true_or_false : (b : Bool) → IsTrue b → b ≡ false → ⊥
 true_or_false true t e = absurd (cc)
@@ -115,28 +154,26 @@ module _ (m : FileMap) (steady : Bool) (before now : ℕ) (command : Option Comm
     (status : Status) (out err : Change) where
   completes_at : (g : GivesPlanned m (FaultsByItself steady before now) command status out err)
       → MayAnswer m (FaultsByItself steady before now) command g.answer
-      → Accepted m command → Calm steady before now → (status ≡ WriteFault → ⊥) → Ends status
-  completes_at g (inl e) a calm fine =
+      → Accepted m command → Calm steady before now → Ends status
+  completes_at g (inl e) a calm =
       let is_done = obeys_once m command g.answer done e (accepted_obeys m command a) in
-      given_done g.answer status out err is_done fine g.given
-  completes_at g (inr f) a (inl s) fine = absurd (true_or_false steady s f.0.0)
-  completes_at g (inr f) a (inr c) fine = absurd (c f.0.1)
+      given_done g.answer status out err is_done g.given
+  completes_at g (inr f) a (inl s) = absurd (true_or_false steady s f.0.0)
+  completes_at g (inr f) a (inr c) = absurd (c f.0.1)
 
   may_complete : MayGive m (FaultsByItself steady before now) command status out err
-      → Accepted m command → Calm steady before now → (status ≡ WriteFault → ⊥) → Ends status
-  may_complete (inl g) a calm fine = completes_at g g.planned a calm fine
-  may_complete (inr u) a calm fine = inr u.status_is
+      → Accepted m command → Calm steady before now → Ends status
+  may_complete (inl g) a calm = completes_at g g.planned a calm
+  may_complete (inr u) a calm = inr u.status_is
 
--- faults and want of memory aside, an accepted file is accepted
+-- faults of files and want of memory aside, an accepted file is accepted
 pub completes : (told : Option FileMap) (steady : Bool) (before now : ℕ)
-    (command : Option Command) (status : Status) (out err : Change) (rose_out rose_err : Type 0)
+    (command : Option Command) (status : Status) (out err : Change)
     → IfSome told (λ m. MayGive m (FaultsByItself steady before now) command status out err)
-    → (status ≡ WriteFault → rose_out ⊎ rose_err)
     → IfSome told (λ m. Accepted m command → IsTrue steady ⊎ (Rose before now → ⊥)
-    → (rose_out → ⊥) → (rose_err → ⊥) → (status ≡ Done) ⊎ (status ≡ OutOfMemory))
-completes None steady before now command status out err rose_out rose_err h w = tt
-completes (Some m) steady before now command status out err rose_out rose_err h w =
-    λ a calm no_out no_err. may_complete m steady before now command status out err h a calm
-    (λ e. elim (w e) [ inl o ↦ no_out o | inr r ↦ no_err r ])
+    → (status ≡ Done) ⊎ (status ≡ OutOfMemory))
+completes None steady before now command status out err h = tt
+completes (Some m) steady before now command status out err h =
+    λ a calm. may_complete m steady before now command status out err h a calm
 
 pub ruleset whole = (completes, one_answer)

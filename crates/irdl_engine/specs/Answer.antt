@@ -18,11 +18,11 @@ use Rattle.irdl_bytes.specs.Outside.{FileMap}
 use Rattle.irdl_bytes.specs.Whole.{file_limit}
 use Rattle.ir_lexer.specs.Place.{line_at, column_at}
 use Rattle.ir_lexer.specs.Spelling.{Text}
-use Rattle.irdl_engine.specs.declared.code.DefCode.{DefCode}
+use Rattle.dialect_registry.specs.declared.code.DefCode.{DefCode}
 use Rattle.irdl_engine.specs.declared.status.Status.{Status}
 use Rattle.irdl_engine.specs.declared.status.Status.TheVariants.{Done, DefinitionRefused, Usage}
 use Rattle.irdl_engine.specs.declared.status.Status.TheVariants.{ReadFault, InputLimit}
-use Rattle.irdl_engine.specs.Codes.{code_number, code_name}
+use Rattle.dialect_registry.specs.Codes.{code_number, code_name}
 use Rattle.irdl_engine.specs.Command.{Command, Check, files_of}
 use Rattle.irdl_engine.specs.Judged.{IsDefinition, IsRefusedAt}
 

@@ -1,9 +1,12 @@
 -- What the bytes of a definition file are judged to be: a definition file, or refused at a place.
 --
---   IsDefinition src            the tokens of src are a definition file
---   IsRefusedAt src place code  the first token of src that no definition file has there stands at
---                               this place, and this is the rule that it breaks
-use Rattle.std.specs.Prelude.{◌≡◌, ℕ}
+--   Spells src defs             the tokens of src are this definition file, whatever its names
+--   IsDefinition src            the tokens of src are a definition file whose names keep the rules
+--   IsRefusedAt src place code  at this place src breaks this rule first: its first token that no
+--                               definition file has there, or, where its tokens are a definition
+--                               file, the first fault of its names
+use Rattle.std.specs.Prelude.{◌≡◌, ◌⊎◌, ℕ}
+use Rattle.std.specs.declared.option.Option.TheVariants.{Some, None}
 use Rattle.ir_lexer.specs.Spelling.{Text}
 use Rattle.ir_lexer.specs.Tokens.{Tokens as AreTokens}
 use Rattle.grammar.specs.declared.stop.SyntaxCode.{SyntaxCode}
@@ -12,8 +15,9 @@ use Rattle.grammar.specs.Answers.{IsRefusal}
 use Rattle.grammar.specs.Grammar.{Tokens}
 use Rattle.irdl_ops.specs.declared.raw.RawDefs.{RawDefs}
 use Rattle.irdl_ops.specs.Definitions.{DefText, TooDeepDef, IsFile}
-use Rattle.irdl_engine.specs.declared.code.DefCode.{DefCode}
-use Rattle.irdl_engine.specs.declared.code.DefCode.TheVariants as code
+use Rattle.dialect_registry.specs.declared.code.DefCode.{DefCode}
+use Rattle.dialect_registry.specs.declared.code.DefCode.TheVariants as code
+use Rattle.dialect_registry.specs.NameFaults.{IsFault, IsFirst}
 
 -- the rule that a refused token breaks: a value nested too deep is a rule of its own
 abbrev pub rule_of : SyntaxCode → DefCode
@@ -22,17 +26,31 @@ rule_of Float = code.Syntax
 rule_of Bad = code.Syntax
 rule_of Nesting = code.Nesting
 
--- The tokens of a text, and a definition file that they spell.
-pub record IsDefinition (src : Text) : Type 0 where
+-- The tokens of a text, which spell this definition file.
+pub record Spells (src : Text) (defs : RawDefs) : Type 0 where
   pub tokens : Tokens
   pub are_tokens : AreTokens src tokens
-  pub defs : RawDefs
   pub is_file : IsFile tokens defs
 
+-- A text that spells a definition file without a fault of names.
+pub record IsDefinition (src : Text) : Type 0 where
+  pub defs : RawDefs
+  pub spells : Spells src defs
+  pub faultless : IsFirst (IsFault defs) None
+
 -- The tokens of a text, the first of them that no definition file has there, and its rule.
-pub record IsRefusedAt (src : Text) (place : ℕ) (code : DefCode) : Type 0 where
+pub record IsSyntaxRefusal (src : Text) (place : ℕ) (code : DefCode) : Type 0 where
   pub tokens : Tokens
   pub are_tokens : AreTokens src tokens
   pub syntax : SyntaxCode
   pub refusal : IsRefusal DefText TooDeepDef tokens place syntax
   pub rule : code ≡ rule_of syntax
+
+-- A text that spells a definition file, and the first fault of its names.
+pub record IsNameRefusal (src : Text) (place : ℕ) (code : DefCode) : Type 0 where
+  pub defs : RawDefs
+  pub spells : Spells src defs
+  pub first : IsFirst (IsFault defs) (Some (record { place = place; code = code }))
+
+abbrev pub IsRefusedAt : Text → ℕ → DefCode → Type 0
+IsRefusedAt src place code = IsSyntaxRefusal src place code ⊎ IsNameRefusal src place code

@@ -1,5 +1,4 @@
 pub mod Answer
-pub mod Codes
 pub mod Command
 pub mod Judged
 pub mod Numbers

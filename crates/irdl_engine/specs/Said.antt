@@ -1,6 +1,7 @@
 -- The answer that the outcome of a file stands for, and what a judgement says of the bytes.
 --
 --   said name o        the answer for a file of this name with the outcome o
+--   StandsAt src r at  the refusal r stands at this place of the text src
 --   Shows src r        the text src is refused as the refusal r says
 --   IsVerdict src v    v is the judgement of the text src
 use Rattle.std.specs.Prelude.{ℕ, ◌≡◌}
@@ -22,12 +23,16 @@ said name Unreadable = read_fault name
 said name TooLong = input_limit name
 said name (Refused r) = refused name r.place.line r.place.column r.code
 
--- a refusal stands at the line and the column of its place
+-- a refusal stands at the line and the column of this place
+pub record StandsAt (src : Text) (r : Refusal) (at : ℕ) : Type 0 where
+  pub line : r.place.line ≡ line_at src at
+  pub column : r.place.column ≡ column_at src at
+
+-- the text is refused as the refusal says
 pub record Shows (src : Text) (r : Refusal) : Type 0 where
   pub at : ℕ
   pub refused : IsRefusedAt src at r.code
-  pub line : r.place.line ≡ line_at src at
-  pub column : r.place.column ≡ column_at src at
+  pub stands : StandsAt src r at
 
 -- no refusal, exactly where the bytes are a definition file; else the refusal
 abbrev pub IsVerdict : Text → Option Refusal → Type 0

@@ -4,7 +4,7 @@
 --   Says s t r e  the line t was written to e and the status r is s, or a write failed after a
 --                 front of it
 --   MayGive ..    one of the answers that may be planned was given
-use Rattle.std.specs.Prelude.{◌≡◌, ◌⊎◌}
+use Rattle.std.specs.Prelude.{◌≡◌, ◌≢◌, ◌⊎◌, []}
 use Rattle.std.specs.declared.option.Option.{Option}
 use Rattle.std.specs.Io.KnownBytes.{Appends, Keeps}
 use Rattle.irdl_bytes.specs.Outside.{FileMap, AppendsPrefix}
@@ -41,9 +41,10 @@ pub record GivesAll (a : Answer) (status : Status) (out err : Change) : Type 0 w
   pub out_got : Got out a.out
   pub err_got : Got err a.err
 
--- a write failed: each sink got a front of what the answer has for it
+-- a write failed of the bytes that the answer has: each sink got a front of what is for it
 pub record GivesFronts (a : Answer) (status : Status) (out err : Change) : Type 0 where
   pub status_is : status ≡ WriteFault
+  pub has_bytes : (a.out ≢ []) ⊎ (a.err ≢ [])
   pub out_got : GotFront out a.out
   pub err_got : GotFront err a.err
 

@@ -5,16 +5,56 @@ ghost use Rattle.irdl_bytes.specs.Outside.{Rose, FaultsByItself};
 ghost use Rattle.irdl_bytes.specs.Whole.{file_limit};
 ghost use Rattle.irdl_engine.specs.Command as spec;
 ghost use Rattle.irdl_engine.specs.Answer.{MayAnswer};
-ghost use Rattle.irdl_engine.specs.Said.{said, IsVerdict};
+ghost use Rattle.irdl_engine.specs.Judged as judged;
+ghost use Rattle.irdl_engine.specs.Judged.{Spells};
+ghost use Rattle.irdl_engine.specs.Said.{said, StandsAt, IsVerdict};
 
-use crate::code::DefCode;
 use crate::outcome::{Outcome, Refusal};
 use crate::status::Status;
+use dialect_registry::{DefCode, judge_names};
 use generic_syntax::SyntaxStop;
+use grammar::SyntaxCode;
 use ir_lexer::{SliceTokens, line_col};
 use irdl_bytes::{Files, ReadError, read_whole};
-use irdl_ops::read_definitions;
+use irdl_ops::{RawDefs, read_definitions};
 use std::alloc::{AllocError, Global};
+
+/// The rule that a refused token breaks.
+fn rule_of(code: SyntaxCode) -> DefCode
+    ensures { result ≡ judged.rule_of code }
+{
+    match code {
+        SyntaxCode::Syntax | SyntaxCode::Float | SyntaxCode::Bad => DefCode::Syntax,
+        SyntaxCode::Nesting => DefCode::Nesting,
+    }
+}
+
+/// A refusal by this rule, at this place of the text.
+fn refusal_at(src: &[u8], place: u32, code: DefCode) -> Refusal
+    requires { length src.now ≤ file_limit }
+    ensures stands { StandsAt src.now result place }
+    ensures rule { result.code ≡ code }
+{
+    Refusal {
+        place: line_col(src, place),
+        code,
+    }
+}
+
+/// Judges the names of a definition file of this text.
+fn judge_file_names(
+    alloc: Global,
+    src: &[u8],
+    defs: &RawDefs,
+) -> Result<Option<Refusal>, AllocError>
+    requires { length src.now ≤ file_limit }
+    ensures { IfOk result (λ verdict. Spells src.now defs.now → IsVerdict src.now verdict) }
+{
+    match judge_names(alloc, defs)? {
+        None => Ok(None),
+        Some(fault) => Ok(Some(refusal_at(src, fault.place, fault.code))),
+    }
+}
 
 /// Judges the bytes of a definition file: the rule that they break first, if any.
 pub fn judge_text(alloc: Global, src: &[u8]) -> Result<Option<Refusal>, AllocError>
@@ -23,11 +63,8 @@ pub fn judge_text(alloc: Global, src: &[u8]) -> Result<Option<Refusal>, AllocErr
 {
     let mut tokens = SliceTokens::new(src);
     match read_definitions(alloc, &mut tokens) {
-        Ok(_) => Ok(None),
-        Err(SyntaxStop::At { place, code }) => Ok(Some(Refusal {
-            place: line_col(src, place),
-            code: DefCode::of(code),
-        })),
+        Ok(defs) => judge_file_names(alloc, src, &defs),
+        Err(SyntaxStop::At { place, code }) => Ok(Some(refusal_at(src, place, rule_of(code)))),
         Err(SyntaxStop::Failed) => unreachable!(),
         Err(SyntaxStop::OutOfMemory) => Err(AllocError),
     }

@@ -5,7 +5,6 @@
 #![tactic(auto)]
 
 mod check;
-mod code;
 mod command;
 mod judge;
 mod outcome;

@@ -1,6 +1,6 @@
 //! What was found of a definition file.
 
-use crate::code::DefCode;
+use dialect_registry::DefCode;
 use ir_lexer::LineCol;
 
 /// A rule that is broken, and where.

@@ -1,6 +1,6 @@
 //! The line that standard error gets.
 
-ghost use Rattle.std.specs.Prelude.{◌≡◌, ◌≤◌, ◌⊎◌};
+ghost use Rattle.std.specs.Prelude.{◌≡◌, ◌≢◌, ◌≤◌, ◌⊎◌, []};
 ghost use Rattle.std.specs.List.{flat_map};
 ghost use Rattle.irdl_bytes.specs.Outside.{Rose};
 ghost use Rattle.irdl_engine.specs.Answer.{usage, refused};
@@ -41,8 +41,10 @@ pub fn report_usage<S: Sink>(err: &mut S) -> Status
     say(err, Status::Usage, &[USAGE.as_bytes()])
 }
 
-/// Writes the line of the outcome of a file, if it has one.
+/// Writes the line of the outcome of a file, if it has one. Else nothing can fail.
+#[tactic(auto, using(crate::proofs::Lines::lines))]
 pub fn report<S: Sink>(err: &mut S, name: &str, outcome: &Outcome) -> Status
+    ensures quiet { (said name.now outcome.now).err ≡ [] → result ≢ Status.WriteFault }
     ensures says { Says (said name.now outcome.now).status (said name.now outcome.now).err result
         (change (S.written err.old) (S.written err.new)) }
     ensures fault { result ≡ Status.WriteFault → Rose (S.faults err.old) (S.faults err.new) }

@@ -12,7 +12,8 @@ const NAME: &str = "f.irdl";
 
 const CHECK: &[&str] = &["check", NAME];
 
-const FILE: &[u8] = b"irdl.dialect @a { irdl.operation @o { %0 = irdl.any %1 = irdl.is i32 } }";
+const FILE: &[u8] = b"irdl.dialect @a { irdl.operation @o { %0 = irdl.any %1 = irdl.is i32 \
+    irdl.operands(x: %0, %1) irdl.results(%0) } }";
 
 const FIRST_BYTE: &str = "f.irdl:1:1: error 1 Syntax\n";
 
@@ -125,19 +126,20 @@ fn each_line_is_written_whole_or_to_the_first_fault(rt: HostRuntime) -> Result<(
         let write = *write;
         gives(&rt, alloc, Case { write, ..refused }, 5, front)?;
     }
-    gives(
-        &rt,
-        alloc,
-        Case {
-            write: 11,
-            ..refused
-        },
-        1,
-        FIRST_BYTE,
-    )
+    let whole = Case {
+        write: 11,
+        ..refused
+    };
+    gives(&rt, alloc, whole, 1, FIRST_BYTE)?;
+    // where there is nothing to write, a closed stream doesn't matter
+    let silent = Case {
+        write: 1,
+        ..check_of(FILE)
+    };
+    gives(&rt, alloc, silent, 0, "")
 }
 
-// The tokens of an accepted file but the last, with the layout before each, and the place behind.
+// An accepted file: its tokens but the last, with the layout before each, and the place behind.
 const TOKENS: &[(&str, u32, u32)] = &[
     ("irdl.dialect", 1, 13),
     (" @a", 1, 16),
@@ -152,7 +154,19 @@ const TOKENS: &[(&str, u32, u32)] = &[
     (" =", 4, 9),
     (" irdl.is", 4, 17),
     (" i32", 4, 21),
-    ("\n  }", 5, 4),
+    ("\n    irdl.operands", 5, 18),
+    ("(", 5, 19),
+    ("x", 5, 20),
+    (":", 5, 21),
+    (" %0", 5, 24),
+    (",", 5, 25),
+    (" %1", 5, 28),
+    (")", 5, 29),
+    ("\n    irdl.results", 6, 17),
+    ("(", 6, 18),
+    ("%0", 6, 20),
+    (")", 6, 21),
+    ("\n  }", 7, 4),
 ];
 
 #[test]
@@ -174,6 +188,98 @@ fn a_file_is_refused_where_it_goes_wrong(rt: HostRuntime) -> Result<(), Fail> {
             _ => FIRST_BYTE,
         };
         gives(&rt, alloc, check_of(&[byte]), 1, line)?;
+    }
+    Ok(())
+}
+
+// A line that takes the place of the results of the accepted file, one that follows its operation,
+// the status and the line of the refusal.
+const NAMES: &[(&str, &str, u8, &str)] = &[
+    ("irdl.results(%0)", "", 0, ""),
+    (
+        "irdl.results(%2)",
+        "",
+        1,
+        "f.irdl:6:18: error 4 RefUnknown\n",
+    ),
+    (
+        "irdl.results(%0)",
+        "irdl.operation @o {}",
+        1,
+        "f.irdl:8:18: error 3 NameRepeated\n",
+    ),
+    // a name of an operand isn't given to a result
+    (
+        "irdl.results(x: %0)",
+        "",
+        1,
+        "f.irdl:6:18: error 3 NameRepeated\n",
+    ),
+    ("irdl.results(y: %0)", "", 0, ""),
+    // a name is known in its own body alone
+    (
+        "irdl.results(%0)",
+        "irdl.operation @p { irdl.results(%0) }",
+        1,
+        "f.irdl:8:36: error 4 RefUnknown\n",
+    ),
+    // of two faults the first counts
+    (
+        "irdl.results(%2)",
+        "irdl.operation @o {}",
+        1,
+        "f.irdl:6:18: error 4 RefUnknown\n",
+    ),
+    (
+        "irdl.results(x: %2)",
+        "irdl.operation @o {}",
+        1,
+        "f.irdl:6:18: error 3 NameRepeated\n",
+    ),
+    (
+        "irdl.results(%0)",
+        "irdl.operation @o { irdl.results(%0) }",
+        1,
+        "f.irdl:8:18: error 3 NameRepeated\n",
+    ),
+    // a token that no file has there counts before names
+    (
+        "irdl.results(%2",
+        "irdl.operation @o {}",
+        1,
+        "f.irdl:7:3: error 1 Syntax\n",
+    ),
+];
+
+#[test]
+fn the_first_fault_of_names_is_told(rt: HostRuntime) -> Result<(), Fail> {
+    let alloc = rt.alloc();
+    for (results, more, status, line) in NAMES {
+        let file = format!(in alloc;
+            "irdl.dialect @a {{\n  irdl.operation @o {{\n    %0 = irdl.any\n    \
+            %1 = irdl.is i32\n    irdl.operands(x: %0, %1)\n    {results}\n  }}\n  {more}\n}}\n"
+        )?;
+        gives(&rt, alloc, check_of(file.as_bytes()), *status, line)?;
+    }
+    Ok(())
+}
+
+// A value name that is used on the line before its definition, or defined twice.
+#[test]
+fn a_value_name_is_defined_once_and_before_its_use(rt: HostRuntime) -> Result<(), Fail> {
+    let alloc = rt.alloc();
+    for (body, line) in [
+        (
+            "%0 = irdl.any\n%0 = irdl.any",
+            "f.irdl:2:1: error 3 NameRepeated\n",
+        ),
+        (
+            "irdl.operands(%0)\nirdl.results(%1)",
+            "f.irdl:1:52: error 4 RefUnknown\n",
+        ),
+    ] {
+        let file = format!(in alloc; "irdl.dialect @a {{ irdl.operation @o {{{body}}} }}")?;
+        gives(&rt, alloc, check_of(file.as_bytes()), 1, line)?;
     }
     Ok(())
 }

@@ -79,12 +79,11 @@ pub fn run<F: Files, O: Sink, E: Sink>(
     ensures write_fault { result ≡ Status.WriteFault →
         Rose (O.faults out.old) (O.faults out.new) ⊎ Rose (E.faults err.old) (E.faults err.new) }
 
-    // Faults and want of memory aside, an accepted file is accepted.
+    // An accepted file is accepted, unless reading it failed or memory ran out. There is nothing to
+    // write, so no stream's fault matters.
     ensures complete { IfSome (F.file_map files.old) (λ m.
         Accepted m (command_of (texts words.now)) →
         IsTrue (F.steady files.old) ⊎ ¬ Rose (F.faults files.old) (F.faults files.new) →
-        ¬ Rose (O.faults out.old) (O.faults out.new) →
-        ¬ Rose (E.faults err.old) (E.faults err.new) →
         (result ≡ Status.Done) ⊎ (result ≡ Status.OutOfMemory)) }
 
     // Standard output gets nothing and isn't tried, whatever the status.

@@ -3,16 +3,21 @@
 ghost use Rattle.grammar.specs.Answers.{Told, Answered, Accepts};
 ghost use Rattle.grammar.specs.Flat.{flat};
 ghost use Rattle.grammar.specs.Ran.{Kept, Reads, ReadsWhole};
-ghost use Rattle.grammar.specs.Rules.{many};
+ghost use Rattle.grammar.specs.Looks.{any_of, passes};
+ghost use Rattle.grammar.specs.Rules.{many, opt, list};
+ghost use Rattle.std.specs.Prelude.{◌≡◌, ◌++◌, ◌||◌, IfOk};
 ghost use Rattle.irdl_ops.specs.Definitions as spec;
 ghost use Rattle.irdl_ops.specs.Definitions.{DefText, TooDeepDef};
 
-use crate::raw::{DefKind, RawDef, RawDefs, RawDialect, RawExpr, RawStatement, StatementKind};
+use crate::raw::{
+    DefKind, RawDef, RawDefs, RawDialect, RawEntry, RawExpr, RawStatement, StatementKind,
+};
 use attr_value::List;
-use generic_syntax::{SyntaxStop, read_integer_type, read_name};
+use dialect_defs::Arity;
+use generic_syntax::{NameCst, SyntaxStop, read_integer_type, read_name, read_word};
 use grammar::{expect, expect_end, expect_word, is_class, is_word};
 use ir_lexer::{Class, TokenSource};
-use std::alloc::Global;
+use std::alloc::{AllocError, Global};
 
 /// Reads a definition file to its end. The source stays at the end.
 ///
@@ -74,7 +79,7 @@ fn operation<T: TokenSource>(alloc: Global, t: &mut T) -> Result<RawDef, SyntaxS
     expect_word(t, b"irdl.operation")?;
     let name = read_name(alloc, t, Class::SymbolName)?;
     expect(t, Class::LBrace)?;
-    let statements = constraints(alloc, t)?;
+    let statements = body(alloc, t)?;
     expect(t, Class::RBrace)?;
     Ok(RawDef {
         place: name.place,
@@ -84,6 +89,149 @@ fn operation<T: TokenSource>(alloc: Global, t: &mut T) -> Result<RawDef, SyntaxS
     })
 }
 
+fn body<T: TokenSource>(alloc: Global, t: &mut T) -> Result<List<RawStatement>, SyntaxStop>
+    ensures { Reads flat spec.body (T.state t.old) result (T.state t.new) }
+{
+    let constraints = constraints(alloc, t)?;
+    let operands = optional_operands(alloc, t)?;
+    let results = optional_results(alloc, t)?;
+    Ok(joined(constraints, operands, results)?)
+}
+
+/// Puts the two statements that may be missing behind the constraints.
+fn joined(
+    mut statements: List<RawStatement>,
+    operands: Option<RawStatement>,
+    results: Option<RawStatement>,
+) -> Result<List<RawStatement>, AllocError>
+    ensures { IfOk result (λ all.
+        all ≡ statements ++ (spec.listed operands ++ spec.listed results)) }
+{
+    if let Some(statement) = operands {
+        statements.push(statement)?;
+    }
+    if let Some(statement) = results {
+        statements.push(statement)?;
+    }
+    statements.trim();
+    Ok(statements)
+}
+
+fn optional_operands<T: TokenSource>(
+    alloc: Global,
+    t: &mut T,
+) -> Result<Option<RawStatement>, SyntaxStop>
+    ensures { Reads flat (opt spec.operands) (T.state t.old) result (T.state t.new) }
+{
+    if !is_word(t, b"irdl.operands") {
+        return Ok(None);
+    }
+    let statement = operands(alloc, t)?;
+    Ok(Some(statement))
+}
+
+fn operands<T: TokenSource>(alloc: Global, t: &mut T) -> Result<RawStatement, SyntaxStop>
+    ensures { Reads flat spec.operands (T.state t.old) result (T.state t.new) }
+{
+    let place = t.place();
+    expect_word(t, b"irdl.operands")?;
+    let entries = entries(alloc, t)?;
+    Ok(RawStatement {
+        place,
+        kind: StatementKind::Operands(entries),
+    })
+}
+
+fn optional_results<T: TokenSource>(
+    alloc: Global,
+    t: &mut T,
+) -> Result<Option<RawStatement>, SyntaxStop>
+    ensures { Reads flat (opt spec.results) (T.state t.old) result (T.state t.new) }
+{
+    if !is_word(t, b"irdl.results") {
+        return Ok(None);
+    }
+    let statement = results(alloc, t)?;
+    Ok(Some(statement))
+}
+
+fn results<T: TokenSource>(alloc: Global, t: &mut T) -> Result<RawStatement, SyntaxStop>
+    ensures { Reads flat spec.results (T.state t.old) result (T.state t.new) }
+{
+    let place = t.place();
+    expect_word(t, b"irdl.results")?;
+    let entries = entries(alloc, t)?;
+    Ok(RawStatement {
+        place,
+        kind: StatementKind::Results(entries),
+    })
+}
+
+fn entries<T: TokenSource>(alloc: Global, t: &mut T) -> Result<List<RawEntry>, SyntaxStop>
+    ensures { Reads flat spec.entries (T.state t.old) result (T.state t.new) }
+{
+    expect(t, Class::LParen)?;
+    let found = entry_list(alloc, t)?;
+    expect(t, Class::RParen)?;
+    Ok(found)
+}
+
+fn entry_list<T: TokenSource>(alloc: Global, t: &mut T) -> Result<List<RawEntry>, SyntaxStop>
+    ensures { Reads flat (list spec.entry) (T.state t.old) result (T.state t.new) }
+{
+    let mut found = List::new(alloc);
+    if !begins_entry(t) {
+        return Ok(found);
+    }
+    found.push(entry(alloc, t)?)?;
+    'each: while is_class(t, Class::Comma) {
+        found.push(next_entry(alloc, t)?)?;
+    }
+    found.trim();
+    Ok(found)
+}
+
+/// Whether an entry begins with the present token.
+fn begins_entry<T: TokenSource>(t: &T) -> bool
+    ensures { result ≡ (passes (any_of Class.Word) (T.state t.now).now
+        || passes (any_of Class.ValueName) (T.state t.now).now) }
+{
+    is_class(t, Class::Word) || is_class(t, Class::ValueName)
+}
+
+fn next_entry<T: TokenSource>(alloc: Global, t: &mut T) -> Result<RawEntry, SyntaxStop>
+    ensures { Reads flat spec.next_entry (T.state t.old) result (T.state t.new) }
+{
+    expect(t, Class::Comma)?;
+    let found = entry(alloc, t)?;
+    Ok(found)
+}
+
+fn entry<T: TokenSource>(alloc: Global, t: &mut T) -> Result<RawEntry, SyntaxStop>
+    ensures { Reads flat spec.entry (T.state t.old) result (T.state t.new) }
+{
+    let place = t.place();
+    let name = entry_name(alloc, t)?;
+    let var = read_name(alloc, t, Class::ValueName)?;
+    Ok(RawEntry {
+        place,
+        name,
+        arity: Arity::Single,
+        var,
+    })
+}
+
+fn entry_name<T: TokenSource>(alloc: Global, t: &mut T) -> Result<Option<NameCst>, SyntaxStop>
+    ensures { Reads flat spec.entry_name (T.state t.old) result (T.state t.new) }
+{
+    if !is_class(t, Class::Word) {
+        return Ok(None);
+    }
+    let name = read_word(alloc, t)?;
+    expect(t, Class::Colon)?;
+    Ok(Some(name))
+}
+
 fn constraints<T: TokenSource>(alloc: Global, t: &mut T) -> Result<List<RawStatement>, SyntaxStop>
     ensures { Reads flat (many spec.constraint) (T.state t.old) result (T.state t.new) }
 {
@@ -91,7 +239,6 @@ fn constraints<T: TokenSource>(alloc: Global, t: &mut T) -> Result<List<RawState
     'each: while is_class(t, Class::ValueName) {
         statements.push(constraint(alloc, t)?)?;
     }
-    statements.trim();
     Ok(statements)
 }
 

@@ -1,24 +1,21 @@
-use Rattle.std.proofs.Common.{◌∙◌, ap, Err}
-use Rattle.irdl_engine.proofs.Judging.{told_accepted, told_within, told_refused}
-use Rattle.irdl_engine.proofs.judge.judge_text.Goals.{in-Ok, in-Err-At, in-Err-OutOfMemory}
+use Rattle.std.proofs.Common.{◌∙◌, ap, Err, subst}
+use Rattle.irdl_engine.specs.Judged.{rule_of}
+use Rattle.irdl_engine.specs.Said.{StandsAt}
+use Rattle.irdl_engine.proofs.Judging.{told_spells, told_refused, judged_as}
 use Rattle.irdl_engine.proofs.judge.judge_text.Goals as goal
 
-pub line_col-requires-clause-within : goal.line_col-requires-clause-within
-line_col-requires-clause-within c =
-    told_within _ c.args.src.now _ c.new-tokens.ensures c.read_definitions.ensures.answer
-    c.in-Err-At.place c.in-Err-At.code (c.in-Err-At.is ∙ ap Err c.in-Err-At.field-0-is)
+pub returns-in-Ok : goal.returns-in-Ok
+returns-in-Ok c = judged_as c.args.src.now c.in-Ok.defs _ c.judge_file_names.ensures
+    (told_spells _ c.args.src.now _ c.new-tokens.ensures c.read_definitions.ensures.answer
+    c.in-Ok.defs c.in-Ok.is)
 
-pub returns : goal.returns
-returns c = elim c.match-read_definitions.branch [
-  | in-Ok w ↦ rw w.result-is (told_accepted _ c.args.src.now _ c.new-tokens.ensures
-      c.read_definitions.ensures.answer w.in-Ok.field-0 w.in-Ok.is)
-  | in-Err-At w ↦ rw w.result-is (record {
-    at = w.in-Err-At.place;
-    refused = told_refused _ c.args.src.now _ c.new-tokens.ensures c.read_definitions.ensures.answer
-        w.in-Err-At.place w.in-Err-At.code w.of.result
-        (w.in-Err-At.is ∙ ap Err w.in-Err-At.field-0-is) w.of.ensures;
-    line = w.line_col.ensures.line;
-    column = w.line_col.ensures.column;
-  })
-  | in-Err-OutOfMemory w ↦ rw w.result-is tt
-]
+pub returns-in-Err-At : goal.returns-in-Err-At
+returns-in-Err-At c = record {
+  at = c.in-Err-At.place;
+  refused = told_refused _ c.args.src.now _ c.new-tokens.ensures c.read_definitions.ensures.answer
+      c.in-Err-At.place c.in-Err-At.code c.refusal_at.result.code
+      (c.in-Err-At.is ∙ ap Err c.in-Err-At.field-0-is)
+      (c.refusal_at.ensures.rule ∙ c.rule_of.ensures ∙ ap rule_of c.in-Err-At.code-is);
+  stands = subst (StandsAt c.args.src.now c.refusal_at.result) c.in-Err-At.place-is
+      c.refusal_at.ensures.stands;
+}

@@ -3,5 +3,4 @@ use Rattle.irdl_engine.proofs.top.run.Goals as goal
 
 pub returns-clause-complete : goal.returns-clause-complete
 returns-clause-complete g c =
-    completes (g.F.Files.file_map c.args.files.now) _ _ _ _ _ _ _ _ _
-    c.obey.ensures.planned c.obey.ensures.write_fault
+    completes (g.F.Files.file_map c.args.files.now) _ _ _ _ _ _ _ c.obey.ensures.planned

@@ -21,4 +21,4 @@ returns-in_err-push g c = let begins = sym c.is_class.ensures ∙ c.each-test.tr
 
 pub returns : goal.returns
 returns g c = let ends = sym c.is_class.ensures ∙ c.each-test.false in
-    rw c.trim.ensures (goes_end (rw ends refl) c.each.invariant)
+    goes_end (rw ends refl) c.each.invariant

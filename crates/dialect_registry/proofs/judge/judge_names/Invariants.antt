@@ -1,0 +1,7 @@
+use Rattle.std.proofs.Common.{take}
+use Rattle.dialect_registry.specs.NameFaults.{Among, IsDialectFault, IsFirst}
+use Rattle.dialect_registry.proofs.judge.judge_names.Given as goal
+
+abbrev pub invariant-loop-dialect : goal.invariant-loop-dialect
+invariant-loop-dialect l =
+    IsFirst (Among IsDialectFault (take l.dialect-index l.dialect-items)) l.first

@@ -1,0 +1,138 @@
+-- The faults of names and references in a definition file.
+--
+-- What a body says of names is a list of marks, in the order of the text: a value name is defined,
+-- an entry is named, a value name is used. Each mark is judged by those before it:
+--
+--   a name is defined once in a body, and so is each definition of a dialect
+--   the entries of one operation have distinct names, operands and results together
+--   a use means a value name that is defined earlier in the same body
+--
+--   Mark               one thing that a text says of a name
+--   fault_of before m  the fault of the mark m, behind those before it
+--   IsFaultIn ms f     f is the fault of a mark of ms
+--   IsFault defs f     f is a fault of the file
+--   IsFirst P first    first is the least of the faults of P, by place and then by code, or none
+--                      where P has none
+use Rattle.std.specs.Prelude.{◌≡◌, ℕ, ◌<◌, ◌≤◌, ◌⊎◌, Bool, false, List, [], ◌∷◌, ◌++◌, map, Contains, bytes_eq, if◌then◌else◌}
+use Rattle.std.specs.List.{list_any, flat_map}
+use Rattle.std.specs.declared.option.Option.{Option}
+use Rattle.std.specs.declared.option.Option.TheVariants.{Some, None}
+use Rattle.ir_lexer.specs.Spelling.{Text}
+use Rattle.generic_syntax.specs.declared.cst.NameCst.{NameCst}
+use Rattle.irdl_ops.specs.declared.raw.RawDef.{RawDef}
+use Rattle.irdl_ops.specs.declared.raw.RawDefs.{RawDefs}
+use Rattle.irdl_ops.specs.declared.raw.RawDialect.{RawDialect}
+use Rattle.irdl_ops.specs.declared.raw.RawEntry.{RawEntry}
+use Rattle.irdl_ops.specs.declared.raw.StatementKind.{StatementKind}
+use Rattle.irdl_ops.specs.declared.raw.StatementKind.TheVariants.{Constraint, Operands, Results}
+use Rattle.dialect_registry.specs.declared.code.DefFault.{DefFault}
+use Rattle.dialect_registry.specs.declared.code.DefCode.TheVariants.{NameRepeated, RefUnknown}
+use Rattle.dialect_registry.specs.Codes.{code_number}
+
+-- one thing that a text says of a name, and the place of that name
+pub data Mark : Type 0 where
+  -- this name is defined here
+  defines : ℕ → Text → Mark
+  -- an entry has this name
+  labels : ℕ → Text → Mark
+  -- this value name is used
+  uses : ℕ → Text → Mark
+
+-- ---- the marks of a text
+
+-- an entry's name, where it has one
+abbrev pub label_of : Option NameCst → List Mark
+label_of None = []
+label_of (Some n) = labels n.place n.name ∷ []
+
+-- what an entry says of names: its own name comes first, and then the value name that it uses
+abbrev pub marks_of_entry : RawEntry → List Mark
+marks_of_entry e = label_of e.name ++ uses e.var.place e.var.name ∷ []
+
+-- what a statement says of names
+abbrev pub marks_of_kind : StatementKind → List Mark
+marks_of_kind (Constraint name expr) = defines name.place name.name ∷ []
+marks_of_kind (Operands entries) = flat_map marks_of_entry entries
+marks_of_kind (Results entries) = flat_map marks_of_entry entries
+marks_of_kind _ = []
+
+-- what the body of a definition says of names
+abbrev pub marks_of_body : RawDef → List Mark
+marks_of_body def = flat_map (λ s. marks_of_kind s.kind) def.statements
+
+-- what a dialect says of its definitions' names
+abbrev pub marks_of_dialect : RawDialect → List Mark
+marks_of_dialect dialect = map (λ d. defines d.place d.name) dialect.defs
+
+-- ---- the fault of a mark
+
+-- the mark defines this name
+abbrev pub defines_name : Text → Mark → Bool
+defines_name name (defines place n) = bytes_eq n name
+defines_name name _ = false
+
+-- the mark names an entry so
+abbrev pub labels_name : Text → Mark → Bool
+labels_name name (labels place n) = bytes_eq n name
+labels_name name _ = false
+
+-- a name is defined by one of these marks
+abbrev pub is_defined : List Mark → Text → Bool
+is_defined ms name = list_any (defines_name name) ms
+
+-- an entry is named so by one of these marks
+abbrev pub is_label : List Mark → Text → Bool
+is_label ms name = list_any (labels_name name) ms
+
+-- the name at this place stands earlier
+abbrev pub repeated : ℕ → DefFault
+repeated place = record { place = place; code = NameRepeated }
+
+-- the name at this place isn't defined earlier
+abbrev pub unknown : ℕ → DefFault
+unknown place = record { place = place; code = RefUnknown }
+
+-- the fault of a mark, behind those before it, where it has one
+abbrev pub fault_of : List Mark → Mark → Option DefFault
+fault_of before (defines place name) =
+    if is_defined before name then Some (repeated place) else None
+fault_of before (labels place name) = if is_label before name then Some (repeated place) else None
+fault_of before (uses place name) = if is_defined before name then None else Some (unknown place)
+
+-- a fault of one of the marks, each behind those before it
+pub record IsFaultIn (ms : List Mark) (f : DefFault) : Type 0 where
+  pub before : List Mark
+  pub mark : Mark
+  pub after : List Mark
+  pub cut : ms ≡ before ++ mark ∷ after
+  pub is : fault_of before mark ≡ Some f
+
+-- ---- the faults of a file
+
+-- a fault of one of these things
+abbrev pub Among : {A : Type 0} → (A → DefFault → Type 0) → List A → DefFault → Type 0
+Among {A = A} P xs f = (x : A) × Contains xs x × P x f
+
+-- a fault of the body of a definition
+abbrev pub IsBodyFault : RawDef → DefFault → Type 0
+IsBodyFault def = IsFaultIn (marks_of_body def)
+
+-- a fault of a dialect: of its definitions' names, or of one of their bodies
+abbrev pub IsDialectFault : RawDialect → DefFault → Type 0
+IsDialectFault dialect f = IsFaultIn (marks_of_dialect dialect) f ⊎ Among IsBodyFault dialect.defs f
+
+-- a fault of a definition file
+abbrev pub IsFault : RawDefs → DefFault → Type 0
+IsFault defs = Among IsDialectFault defs.dialects
+
+-- ---- the first of the faults
+
+-- f comes no later than g: its place is less, or it is the same and the code isn't greater
+abbrev pub NoLater : DefFault → DefFault → Type 0
+NoLater f g =
+    (f.place < g.place) ⊎ ((f.place ≡ g.place) × (code_number f.code ≤ code_number g.code))
+
+-- the first of the faults, or none where there is no fault
+abbrev pub IsFirst : (DefFault → Type 0) → Option DefFault → Type 0
+IsFirst P None = (f : DefFault) → P f → ⊥
+IsFirst P (Some f) = P f × ((g : DefFault) → P g → NoLater f g)
