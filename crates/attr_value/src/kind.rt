@@ -1,4 +1,4 @@
-//! The kinds of integer types and of shaped types.
+//! The kinds of types that have a word, a width or a shape.
 
 /// A kind of integer type. Those with a width have it in bits.
 #[derive(Clone, Copy, Debug, PartialEq, Eq, Hash, Drop)]
@@ -13,6 +13,25 @@ pub enum IntKind {
     Unsigned(u32),
 }
 
+/// A float type.
+#[derive(Clone, Copy, Debug, PartialEq, Eq, Hash, Drop)]
+pub enum FloatKind {
+    /// `bf16`.
+    Bf16,
+    /// `f16`.
+    F16,
+    /// `tf32`.
+    Tf32,
+    /// `f32`.
+    F32,
+    /// `f64`.
+    F64,
+    /// `f80`.
+    F80,
+    /// `f128`.
+    F128,
+}
+
 /// A kind of shaped type: elements of one type, in dimensions.
 #[derive(Clone, Copy, Debug, PartialEq, Eq, Hash, Drop)]
 pub enum ShapeKind {
@@ -22,4 +41,13 @@ pub enum ShapeKind {
     Tensor,
     /// `memref<..>`.
     Memref,
+}
+
+/// A dimension of a shaped type.
+#[derive(Clone, Copy, Debug, PartialEq, Eq, Hash, Drop)]
+pub enum Dim {
+    /// So many elements.
+    Known(u64),
+    /// `?`, a number of elements that the type doesn't say.
+    Unknown,
 }

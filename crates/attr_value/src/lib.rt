@@ -1,16 +1,23 @@
-//! Texts, lists, and the kinds of types that values are made of.
+//! Values: types and attributes, as heads over other values.
 //!
-//! [`Text`] and [`List`] are collections on the heap that contracts see as plain lists, so a
-//! definition can compute them, and a type may hold itself through a [`List`]. What a value is,
-//! and which values are good, is for the crates above.
+//! A value is a [`Head`] and a list of values, its kids; a table of values knows each by a
+//! [`ValueId`]. [`Text`] and [`List`] are collections on the heap that contracts see as plain
+//! lists, so a definition can compute them, and a type may hold itself through a [`List`].
+//! `specs/Values.antt` says what a value is, and `specs/Heads.antt` what its head keeps to.
 #![tactic(auto)]
 
+mod base;
+mod head;
 mod kind;
 mod list;
+mod number;
 mod text;
 
-pub use kind::{IntKind, ShapeKind};
+pub use base::{BaseKind, base_named, is_base};
+pub use head::{Head, ValueId};
+pub use kind::{Dim, FloatKind, IntKind, ShapeKind};
 pub use list::List;
+pub use number::residue;
 pub use text::Text;
 
 #[cfg(test)]

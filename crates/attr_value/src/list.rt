@@ -1,5 +1,5 @@
 //! Lists that grow at their end.
-ghost use Rattle.std.specs.Prelude.{◌≡◌, [], ◌∷◌, ◌++◌, OnOk, OnErr};
+ghost use Rattle.std.specs.Prelude.{◌≡◌, [], ◌∷◌, ◌++◌, IfOk, OnOk, OnErr};
 ghost use Rattle.std.specs.Cmp.Lexicographic.{pointwise};
 ghost use Rattle.std.specs.Cmp.Rules.{comparing};
 ghost use Rattle.std.specs.Hash as fed;
@@ -60,6 +60,16 @@ impl<T: Drop> List<T> {
     {
         self.items.push(item)?;
         Ok(())
+    }
+}
+
+impl<T: Copy> List<T> {
+    /// A list of these items, copied.
+    pub fn from_slice(alloc: Global, items: &[T]) -> Result<List<T>, AllocError>
+        ensures { IfOk result (λ list. list ≡ items.now) }
+    {
+        let items = Vec::from_slice(alloc, items)?;
+        Ok(List { items })
     }
 }
 

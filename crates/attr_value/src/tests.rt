@@ -94,3 +94,152 @@ fn items_stay_in_the_order_of_their_pushes(rt: HostRuntime) -> Result<(), Fail> 
     assert!(rt; ShapeKind::Vector != ShapeKind::Tensor && ShapeKind::Tensor != ShapeKind::Memref);
     Ok(())
 }
+
+#[test]
+fn a_number_is_kept_by_the_range_of_its_kind(rt: HostRuntime) {
+    let half = 1i128 << 63;
+    for (kind, n, want) in [
+        (IntKind::Signless(8), 255, Some(-1)),
+        (IntKind::Signless(8), 256, None),
+        (IntKind::Signless(8), 128, Some(-128)),
+        (IntKind::Signless(8), 127, Some(127)),
+        (IntKind::Signless(8), -128, Some(-128)),
+        (IntKind::Signless(8), -129, None),
+        (IntKind::Signless(1), 1, Some(-1)),
+        (IntKind::Signless(1), 0, Some(0)),
+        (IntKind::Signless(1), -1, Some(-1)),
+        (IntKind::Signless(1), 2, None),
+        (IntKind::Signless(1), -2, None),
+        (IntKind::Signless(64), half, Some(-half)),
+        (IntKind::Signless(64), 2 * half - 1, Some(-1)),
+        (IntKind::Signless(64), 2 * half, None),
+        (IntKind::Signless(64), -half, Some(-half)),
+        (IntKind::Signless(64), -half - 1, None),
+        (IntKind::Signless(0), 0, None),
+        (IntKind::Signless(65), 0, None),
+        (IntKind::Signed(8), 127, Some(127)),
+        (IntKind::Signed(8), 128, None),
+        (IntKind::Signed(8), -128, Some(-128)),
+        (IntKind::Signed(8), -129, None),
+        (IntKind::Signed(1), 0, Some(0)),
+        (IntKind::Signed(1), 1, None),
+        (IntKind::Signed(64), half - 1, Some(half - 1)),
+        (IntKind::Signed(64), half, None),
+        (IntKind::Signed(0), 0, None),
+        (IntKind::Signed(65), 0, None),
+        (IntKind::Unsigned(8), 255, Some(255)),
+        (IntKind::Unsigned(8), 256, None),
+        (IntKind::Unsigned(8), 0, Some(0)),
+        (IntKind::Unsigned(8), -1, None),
+        (IntKind::Unsigned(64), 2 * half - 1, Some(2 * half - 1)),
+        (IntKind::Unsigned(64), 2 * half, None),
+        (IntKind::Unsigned(0), 0, None),
+        (IntKind::Unsigned(65), 0, None),
+        (IntKind::Index, half - 1, Some(half - 1)),
+        (IntKind::Index, half, None),
+        (IntKind::Index, -half, Some(-half)),
+        (IntKind::Index, -half - 1, None),
+    ] {
+        assert_eq!(rt; residue(kind, n), want);
+    }
+}
+
+#[test]
+fn kinds_of_heads_have_names(rt: HostRuntime) {
+    for (name, want) in [
+        (b"!builtin.integer".as_slice(), Some(BaseKind::Integer)),
+        (b"!builtin.index", Some(BaseKind::Index)),
+        (b"!builtin.none", Some(BaseKind::NoneType)),
+        (b"!builtin.bf16", Some(BaseKind::Float(FloatKind::Bf16))),
+        (b"!builtin.f16", Some(BaseKind::Float(FloatKind::F16))),
+        (b"!builtin.tf32", Some(BaseKind::Float(FloatKind::Tf32))),
+        (b"!builtin.f32", Some(BaseKind::Float(FloatKind::F32))),
+        (b"!builtin.f64", Some(BaseKind::Float(FloatKind::F64))),
+        (b"!builtin.f80", Some(BaseKind::Float(FloatKind::F80))),
+        (b"!builtin.f128", Some(BaseKind::Float(FloatKind::F128))),
+        (b"!builtin.function", Some(BaseKind::Function)),
+        (b"!builtin.tuple", Some(BaseKind::Tuple)),
+        (b"!builtin.vector", Some(BaseKind::Vector)),
+        (b"!builtin.tensor", Some(BaseKind::Tensor)),
+        (b"!builtin.memref", Some(BaseKind::Memref)),
+        (b"!builtin.complex", Some(BaseKind::Complex)),
+        (b"#builtin.integer", Some(BaseKind::IntegerAttr)),
+        (b"#builtin.string", Some(BaseKind::StrAttr)),
+        (b"#builtin.unit", Some(BaseKind::UnitAttr)),
+        (b"#builtin.array", Some(BaseKind::ArrayAttr)),
+        (b"#builtin.dictionary", Some(BaseKind::DictAttr)),
+        (b"#builtin.symbol_ref", Some(BaseKind::SymbolAttr)),
+        (b"#builtin.dense_array", Some(BaseKind::DenseAttr)),
+        (b"", None),
+        (b"!builtin", None),
+        (b"!builtin.", None),
+        (b"builtin.integer", None),
+        (b"!builtin.integers", None),
+        (b"!builtin.intege", None),
+        (b"#builtin.index", None),
+        (b"!builtin.string", None),
+        (b"!builtin.f8", None),
+        (b"!Builtin.f32", None),
+        (b"#builtin.symbol", None),
+    ] {
+        assert_eq!(rt; base_named(name), want);
+    }
+}
+
+#[test]
+fn a_head_says_what_it_is(rt: HostRuntime) -> Result<(), Fail> {
+    let alloc = rt.alloc();
+    let mut keys = List::new(alloc);
+    keys.push(Text::from_slice(alloc, b"a")?)?;
+    let name = Text::from_slice(alloc, b"d.t")?;
+    let vector = Head::Shaped {
+        kind: ShapeKind::Vector,
+        dims: List::from_slice(alloc, &[Dim::Known(4)])?,
+    };
+    for (head, base, is_type, kids) in [
+        (
+            Head::Int(IntKind::Index),
+            BaseKind::Index,
+            true,
+            [true, false, false],
+        ),
+        (
+            Head::Int(IntKind::Signed(8)),
+            BaseKind::Integer,
+            true,
+            [true, false, false],
+        ),
+        (
+            Head::Float(FloatKind::F32),
+            BaseKind::Float(FloatKind::F32),
+            true,
+            [true, false, false],
+        ),
+        (
+            Head::Function { inputs: 1 },
+            BaseKind::Function,
+            true,
+            [false, true, true],
+        ),
+        (Head::Tuple, BaseKind::Tuple, true, [true, true, true]),
+        (Head::Complex, BaseKind::Complex, true, [false, true, false]),
+        (vector, BaseKind::Vector, true, [false, true, false]),
+        (Head::Unit, BaseKind::UnitAttr, false, [true, false, false]),
+        (
+            Head::Dict { keys },
+            BaseKind::DictAttr,
+            false,
+            [false, true, false],
+        ),
+    ] {
+        assert!(rt; is_base(&head, base) && !is_base(&head, BaseKind::Tensor));
+        assert_eq!(rt; head.is_type(), is_type);
+        assert_eq!(rt; [head.kids_ok(0), head.kids_ok(1), head.kids_ok(2)], kids);
+    }
+    let dialect = Head::Dialect {
+        is_type: false,
+        name,
+    };
+    assert!(rt; !dialect.is_type() && dialect.kids_ok(3) && !is_base(&dialect, BaseKind::UnitAttr));
+    Ok(())
+}

@@ -1,6 +1,15 @@
-//! Definitions as data.
+//! Definitions of operations, types and attributes as data, with names resolved and constants as
+//! values.
+//!
+//! The crate has no calls. Its `specs/` say what the data means: which assignments meet a body
+//! (`Assignments`), which values are good (`Goodness`), how operands fall into segments
+//! (`Segments`), and when an operation meets its definition (`Operations`).
 #![tactic(auto)]
 
+mod body;
+mod definition;
 mod entry;
 
-pub use entry::Arity;
+pub use body::{BaseRef, Body, Constraint, VarId};
+pub use definition::{OpDef, TypeDef};
+pub use entry::{Arity, AttrEntry, Entry, RegionEntry};

@@ -1,0 +1,4 @@
+pub mod Grown
+pub mod Once
+pub mod Shallow
+pub mod Inserted

@@ -1,0 +1,4 @@
+pub mod Named
+pub mod Powers
+pub mod Same
+pub mod SameHead

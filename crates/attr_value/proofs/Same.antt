@@ -1,0 +1,73 @@
+-- What `==` finds equal is equal: for texts, for lists, and for the kinds that heads are made of.
+use Rattle.std.proofs.Common.{◌≡◌, Bool, true, false, [], ◌∷◌, refl, sym, ap, true≢false}
+use Rattle.std.proofs.Common.{rules}
+use Rattle.std.specs.Prelude.{◌&&◌, ℤ, nat_eq}
+use Rattle.std.specs.Bool.{beq}
+use Rattle.std.specs.Ordering.{int_eq}
+use Rattle.std.specs.Cmp.Lexicographic.{pointwise}
+use Rattle.std.proofs.lemmas.Map.Views.{exact_unsigned_eq}
+use Rattle.attr_value.specs.declared.kind.Dim.TheVariants.{Known, Unknown}
+use Rattle.attr_value.specs.declared.kind.FloatKind.TheVariants as f
+use Rattle.attr_value.specs.declared.kind.IntKind.TheVariants.{Index, Signless, Signed, Unsigned}
+use Rattle.attr_value.specs.declared.kind.ShapeKind.TheVariants.{Vector, Tensor, Memref}
+use Rattle.attr_value.specs.contracts.kind.DimPartialEq.TheImpl as dim
+use Rattle.attr_value.specs.contracts.kind.FloatKindPartialEq.TheImpl as float_kind
+use Rattle.attr_value.specs.contracts.kind.IntKindPartialEq.TheImpl as int_kind
+use Rattle.attr_value.specs.contracts.kind.ShapeKindPartialEq.TheImpl as shape_kind
+
+-- a test that is true of equal values alone
+abbrev pub TellsApart : {A : Type 0} → (A → A → Bool) → Type 0
+TellsApart {A} eq = (x y : A) → eq x y ≡ true → x ≡ y
+
+pub both_true : (a b : Bool) → (a && b) ≡ true → (a ≡ true) × (b ≡ true)
+both_true true b same = (refl, same)
+both_true false b same = absurd (true≢false (sym same))
+
+pub same_list : {A : Type 0} (eq : A → A → Bool) → TellsApart eq → TellsApart (pointwise eq)
+same_list eq apart [] [] same = refl
+same_list eq apart [] (y ∷ ys) same = cc
+same_list eq apart (x ∷ xs) [] same = cc
+same_list eq apart (x ∷ xs) (y ∷ ys) same =
+    let both = both_true (eq x y) (pointwise eq xs ys) same in
+    let first : x ≡ y = apart x y both.0 in
+    let rest : xs ≡ ys = same_list eq apart xs ys both.1 in
+    cc
+
+pub same_text : TellsApart (pointwise nat_eq)
+same_text = same_list nat_eq exact_unsigned_eq
+
+pub same_int : (a b : ℤ) → int_eq a b ≡ true → a ≡ b
+same_int a b same = search rules
+
+pub same_bool : (a b : Bool) → beq a b ≡ true → a ≡ b
+same_bool true true same = refl
+same_bool false false same = refl
+same_bool _ _ same = cc
+
+pub same_dim : TellsApart dim.ghosts.eq
+same_dim (Known a) (Known b) same = ap Known (exact_unsigned_eq a b same)
+same_dim Unknown Unknown same = refl
+same_dim _ _ same = cc
+
+pub same_int_kind : TellsApart int_kind.ghosts.eq
+same_int_kind Index Index same = refl
+same_int_kind (Signless a) (Signless b) same = ap Signless (exact_unsigned_eq a b same)
+same_int_kind (Signed a) (Signed b) same = ap Signed (exact_unsigned_eq a b same)
+same_int_kind (Unsigned a) (Unsigned b) same = ap Unsigned (exact_unsigned_eq a b same)
+same_int_kind _ _ same = cc
+
+pub same_float_kind : TellsApart float_kind.ghosts.eq
+same_float_kind f.Bf16 f.Bf16 same = refl
+same_float_kind f.F16 f.F16 same = refl
+same_float_kind f.Tf32 f.Tf32 same = refl
+same_float_kind f.F32 f.F32 same = refl
+same_float_kind f.F64 f.F64 same = refl
+same_float_kind f.F80 f.F80 same = refl
+same_float_kind f.F128 f.F128 same = refl
+same_float_kind _ _ same = cc
+
+pub same_shape_kind : TellsApart shape_kind.ghosts.eq
+same_shape_kind Vector Vector same = refl
+same_shape_kind Tensor Tensor same = refl
+same_shape_kind Memref Memref same = refl
+same_shape_kind _ _ same = cc

@@ -1,0 +1,5 @@
+pub mod Assignments
+pub mod Bodies
+pub mod Goodness
+pub mod Segments
+pub mod Operations
