@@ -6,3 +6,5 @@ pub mod Next
 pub mod Sliced
 pub mod Unescape
 pub mod Once
+pub mod Apart
+pub mod Texts

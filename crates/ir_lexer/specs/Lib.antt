@@ -9,3 +9,4 @@ pub mod Slice
 pub mod SliceInside
 pub mod Scan
 pub mod Sliced
+pub mod Written

@@ -42,7 +42,7 @@ impl<'a> Model for Lexer<'a> {
 }
 
 impl<'a> Lexer<'a> {
-    /// A lexer at the start of a text.
+    /// A lexer at the start of a text. It takes no memory.
     pub fn new(src: &'a [u8]) -> Lexer<'a>
         requires short { length src.now ≤ TEXT_LIMIT }
         ensures { result ≡ record { text = src.now; place = 0 } }
@@ -51,7 +51,8 @@ impl<'a> Lexer<'a> {
     }
 
     /// The next token: behind blanks and comments, the longest prefix of the rest that spells a
-    /// class, `Bad` where none does, and `End` where nothing is left, again at each call.
+    /// class, `Bad` where none does, and `End` where nothing is left, again at each call. It takes
+    /// no memory.
     ///
     /// Each call begins where the last one ended. So from a new lexer on, the tokens up to the
     /// first `End` are those that `Tokens` of `specs/Tokens.antt` gives the text.
@@ -68,7 +69,7 @@ impl<'a> Lexer<'a> {
         token
     }
 
-    /// The bytes of a token.
+    /// The bytes of a token, which are a part of the text. It takes no memory.
     pub fn text(&self, t: Token) -> &[u8]
         requires inside { (t.start ≤ t.end) × (t.end ≤ length self.now.text) }
         ensures { result.now ≡ slice_range self.now.text t.start t.end }

@@ -13,7 +13,8 @@ pub struct LineCol {
 }
 
 /// The line and the column of a place in a text. A line ends behind its line feed, and a column
-/// counts bytes, not characters. A place is in bytes from 0; one behind the end is taken as the end.
+/// counts bytes, not characters. A place is in bytes from 0; one behind the end is taken as the
+/// end. It takes no memory.
 #[tactic(auto, using(crate::proofs::Columns::columns))]
 pub fn line_col(src: &[u8], at: u32) -> LineCol
     requires size { length src.now ≤ TEXT_LIMIT }

@@ -105,7 +105,8 @@ pub fn longest(text: &[u8]) -> Found
     }
 }
 
-/// The class that a whole text spells, if there is one. It is never `Bad` or `End`.
+/// The class that a whole text spells, if there is one. It is never `Bad` or `End`. It takes no
+/// memory.
 pub fn class_of(text: &[u8]) -> Option<Class>
     ensures { (class : Class) → (result ≡ Some class ↔ Spells class text.now) }
 {

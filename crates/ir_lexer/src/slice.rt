@@ -34,7 +34,7 @@ impl<'a> Model for SliceTokens<'a> {
 }
 
 impl<'a> SliceTokens<'a> {
-    /// A source at the first token of a slice.
+    /// A source at the first token of a slice. It takes no memory, and neither do its calls.
     pub fn new(src: &'a [u8]) -> SliceTokens<'a>
         requires short { length src.now ≤ TEXT_LIMIT }
         ensures { Tells (slice_source result) src.now }

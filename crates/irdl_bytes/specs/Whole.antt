@@ -2,14 +2,15 @@
 --
 --   file_limit                     the greatest length of a file that is read
 --   TellsBytes told name result    what an answer of `read_whole` says of the bytes of a name
-use Rattle.std.specs.Prelude.{◌≡◌, ℕ, ◌<◌, List, length, ⊤}
+--   IsPastLimit told name file     the open file is that of the name, one byte past the limit
+use Rattle.std.specs.Prelude.{◌≡◌, ℕ, ◌+◌, ◌<◌, List, length, ⊤}
 use Rattle.std.specs.declared.option.Option.{Option}
 use Rattle.std.specs.declared.option.Option.TheVariants.{Some, None}
 use Rattle.std.specs.declared.result.Result.{Result}
 use Rattle.std.specs.declared.result.Result.TheVariants.{Ok, Err}
 use Rattle.std.specs.declared.vec.Vec.{Vec}
 use Rattle.std.specs.declared.alloc.Global.{Global}
-use Rattle.irdl_bytes.specs.Outside.{FileMap}
+use Rattle.irdl_bytes.specs.Outside.{FileMap, OpenFile}
 use Rattle.irdl_bytes.specs.declared.whole.ReadError.{ReadError}
 use Rattle.irdl_bytes.specs.declared.whole.ReadError.TheVariants.{ReadFault, InputLimit, OutOfMemory}
 
@@ -26,3 +27,8 @@ TellsBytes (Some files) name (Err InputLimit) =
     (bytes : List ℕ) × (files name ≡ Some bytes) × (file_limit < length bytes)
 TellsBytes (Some files) name (Err ReadFault) = ⊤
 TellsBytes (Some files) name (Err OutOfMemory) = ⊤
+
+-- Where the bytes of names are told: so far the file of this name was read, and no further.
+abbrev pub IsPastLimit : Option FileMap → List ℕ → Option OpenFile → Type 0
+IsPastLimit None name file = ⊤
+IsPastLimit (Some files) name file = file ≡ Some (record { name = name; place = file_limit + 1 })

@@ -1,9 +1,9 @@
 //! Files that are read and streams that are written.
 //!
 //! The traits [`Files`] and [`Sink`] say what a call does, and that it fails only where a count of
-//! faults rose, which the code that calls them can't raise. They have implementations in memory,
-//! whose clauses are exact, and over the machine's files and streams, which tell no content.
-//! [`read_whole`] reads a file up to a limit. Begin at `src/outside.rt` and `specs/Outside.antt`.
+//! faults rose in that call. They have implementations in memory, whose clauses are exact, and over
+//! the machine's files and streams, which tell no content. [`read_whole`] reads a file up to a
+//! limit. Begin at `src/outside.rt` and `specs/Outside.antt`.
 #![tactic(auto)]
 
 mod host;

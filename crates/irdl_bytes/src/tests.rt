@@ -116,6 +116,7 @@ fn the_machines_files_are_read(rt: HostRuntime) -> Result<(), Fail> {
     assert!(rt; files.open("g.txt").is_err());
     assert!(rt; files.open(".").is_ok());
     assert!(rt; files.read(&mut [0; 4]).is_err(), "a directory");
+    std::fs::remove_file(&rt, "f.txt")?;
     Ok(())
 }
 

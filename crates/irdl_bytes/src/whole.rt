@@ -1,7 +1,7 @@
 //! A file's bytes as a whole, up to a limit.
 ghost use Rattle.std.specs.Prelude.{◌≡◌, ◌<◌, ◌≤◌, IfOk, IsErrOf, IsTrue, length, vec_len};
 ghost use Rattle.irdl_bytes.specs.Outside.{Rose, Lacks};
-ghost use Rattle.irdl_bytes.specs.Whole.{file_limit, TellsBytes};
+ghost use Rattle.irdl_bytes.specs.Whole.{file_limit, TellsBytes, IsPastLimit};
 
 use crate::outside::Files;
 use std::alloc::{AllocError, Global};
@@ -34,12 +34,14 @@ fn new_buffer(alloc: Global) -> Result<Vec<u8>, AllocError>
     vec![in alloc; 0u8; PIECE_LEN]
 }
 
-/// All bytes of the file of this name, which is opened and read to its end. Of a longer file at
-/// most one byte past the limit is read.
+/// All bytes of the file of this name, which is opened and read to its end. A file that is too long
+/// is read to one byte past the limit, and no further.
 #[tactic(auto, using(crate::proofs::Reading::reading))]
 pub fn read_whole<F: Files>(alloc: Global, files: &mut F, name: &str) -> Result<Vec<u8>, ReadError>
     ensures told { TellsBytes (F.file_map files.old) name.now result }
     ensures within { IfOk result (λ bytes. length bytes.items ≤ file_limit) }
+    ensures past_limit { IsErrOf result ReadError.InputLimit →
+        IsPastLimit (F.file_map files.old) name.now (F.open_file files.new) }
 
     // A read fault has its cause, and a name that the map lacks always gives one.
     ensures cause { IsErrOf result ReadError.ReadFault →

@@ -35,7 +35,7 @@ use Rattle.dialect_registry.specs.NameFaults.{IsFault, IsFirst}
 use Rattle.irdl_engine.specs.declared.outcome.Outcome.TheVariants.{Accepted, Unreadable, TooLong}
 use Rattle.irdl_engine.specs.declared.outcome.Outcome.TheVariants.{Refused as RefusedFor}
 use Rattle.irdl_engine.specs.declared.outcome.Refusal.{Refusal}
-use Rattle.irdl_engine.specs.Answer.{MayAnswer, read_fault}
+use Rattle.irdl_engine.specs.Answer.{MayAnswer, read_fault, refused, place_at}
 use Rattle.irdl_engine.specs.Command.{Check}
 use Rattle.irdl_engine.specs.Judged.{Spells, IsDefinition, IsRefusedAt, rule_of}
 use Rattle.irdl_engine.specs.Said.{StandsAt, IsVerdict}
@@ -120,7 +120,12 @@ pub refused_as : (told : Option FileMap) (failed : Type 0) (def : Text) (v : Vec
     → IfSome told (λ m. MayAnswer m failed (Some (Check def)) (said def (RefusedFor r)))
 refused_as None failed def v r h le s = tt
 refused_as (Some m) failed def v r h le s =
-    inl (rw h (inr (le, inr (s.at, r.code, s.refused, rw (s.stands.line, s.stands.column) refl))))
+    let line = s.stands.line in
+    let column = s.stands.column in
+    let place : r.place ≡ place_at v.items s.at =
+    λ i. record { line = line i; column = column i } in
+    let answer = ap (λ at. refused def at r.code) place in
+    inl (rw h (inr (le, inr (s.at, r.code, s.refused, answer))))
 
 -- of a file that is too long
 pub too_long_as : (told : Option FileMap) (failed : Type 0) (def : Text)

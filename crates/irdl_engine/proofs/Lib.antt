@@ -1,4 +1,3 @@
-pub mod Appending
 pub mod Given
 pub mod Judging
 pub mod Lines

@@ -1,10 +1,9 @@
 -- Each line that is said has bytes.
-use Rattle.std.proofs.Common.{◌≡◌, [], ◌∷◌, ◌++◌, ℕ}
+use Rattle.std.proofs.Common.{◌≡◌, [], ◌∷◌}
 use Rattle.ir_lexer.specs.Spelling.{Text}
-use Rattle.dialect_registry.specs.declared.code.DefCode.{DefCode}
 use Rattle.irdl_engine.specs.declared.outcome.Outcome.TheVariants.{Unreadable, TooLong, Refused}
 use Rattle.irdl_engine.specs.declared.outcome.Refusal.{Refusal}
-use Rattle.irdl_engine.specs.Answer.{usage, refused}
+use Rattle.irdl_engine.specs.Answer.{usage}
 use Rattle.irdl_engine.specs.Said.{said}
 
 pub unreadable_line : (name : Text) → (said name Unreadable).err ≡ [] → ⊥

@@ -10,7 +10,6 @@ use Rattle.std.specs.declared.option.Option.{Option}
 use Rattle.std.specs.declared.option.Option.TheVariants.{Some, None}
 use Rattle.irdl_bytes.specs.Outside.{FileMap, FaultsByItself, Rose}
 use Rattle.irdl_bytes.specs.Whole.{file_limit}
-use Rattle.ir_lexer.specs.Place.{line_at, column_at}
 use Rattle.ir_lexer.specs.Spelling.{Text}
 use Rattle.ir_lexer.proofs.Once.{one_list}
 use Rattle.grammar.specs.Answers.{IsRefusal}
@@ -24,7 +23,7 @@ use Rattle.dialect_registry.proofs.Once.{first_once}
 use Rattle.irdl_engine.specs.declared.status.Status.{Status}
 use Rattle.irdl_engine.specs.declared.status.Status.TheVariants.{Done, OutOfMemory}
 use Rattle.irdl_engine.specs.Answer.{Answer, Accepted, Judged, Checked, Obeys, MayAnswer}
-use Rattle.irdl_engine.specs.Answer.{done, refused}
+use Rattle.irdl_engine.specs.Answer.{done, refused, place_at}
 use Rattle.irdl_engine.specs.Command.{Command, Check}
 use Rattle.irdl_engine.specs.Judged.{Spells, IsDefinition, IsSyntaxRefusal, IsNameRefusal, IsRefusedAt, rule_of}
 use Rattle.irdl_engine.specs.Writes.{Change, GivesAll, GivesFronts, GivesPlanned, MayGive}
@@ -87,11 +86,9 @@ one_place src p q c e (inr x) (inr y) = one_fault src p q c e x y
 
 -- the same place and rule give the same answer
 same_refused : (name src : Text) (p q : ℕ) (c e : DefCode) → (p ≡ q) × (c ≡ e)
-    → refused name (line_at src p) (column_at src p) c
-    ≡ refused name (line_at src q) (column_at src q) e
+    → refused name (place_at src p) c ≡ refused name (place_at src q) e
 same_refused name src p q c e u =
-    ap (λ x. refused name (line_at src x) (column_at src x) c) u.0
-    ∙ ap (λ x. refused name (line_at src q) (column_at src q) x) u.1
+    ap (λ x. refused name (place_at src x) c) u.0 ∙ ap (λ x. refused name (place_at src q) x) u.1
 
 judged_once : (name src : Text) (a b : Answer) → Judged name src a → Judged name src b → a ≡ b
 judged_once name src a b (inl (d, e)) (inl (d2, e2)) = e ∙ sym e2

@@ -17,7 +17,9 @@ use Rattle.std.specs.declared.option.Option.TheVariants.{Some, None}
 use Rattle.irdl_bytes.specs.Outside.{FileMap}
 use Rattle.irdl_bytes.specs.Whole.{file_limit}
 use Rattle.ir_lexer.specs.Place.{line_at, column_at}
+use Rattle.ir_lexer.specs.declared.place.LineCol.{LineCol}
 use Rattle.ir_lexer.specs.Spelling.{Text}
+use Rattle.text_layout.specs.Refusal.{refusal_line}
 use Rattle.dialect_registry.specs.declared.code.DefCode.{DefCode}
 use Rattle.irdl_engine.specs.declared.status.Status.{Status}
 use Rattle.irdl_engine.specs.declared.status.Status.TheVariants.{Done, DefinitionRefused, Usage}
@@ -59,23 +61,23 @@ abbrev pub input_limit : Text → Answer
 input_limit name =
     record { status = InputLimit; out = []; err = name_line (codes "input limit: ") name }
 
--- `FILE:LINE:COLUMN: error CODE NAME`
-abbrev pub refusal_line : Text → ℕ → ℕ → DefCode → Text
-refusal_line name line column code = concat
-    (name ∷ codes ":" ∷ decimal line ∷ codes ":" ∷ decimal column
-    ∷ codes ": error " ∷ decimal (code_number code) ∷ codes " " ∷ code_name code
-    ∷ codes "\n" ∷ [])
+-- a file of this name is refused at this place, by this rule: `FILE:LINE:COLUMN: error CODE NAME`
+abbrev pub refused : Text → LineCol → DefCode → Answer
+refused name place code = record {
+  status = DefinitionRefused;
+  out = [];
+  err = refusal_line name place (decimal (code_number code)) (code_name code) [];
+}
 
--- a file of this name is refused at this line and column, by this rule
-abbrev pub refused : Text → ℕ → ℕ → DefCode → Answer
-refused name line column code =
-    record { status = DefinitionRefused; out = []; err = refusal_line name line column code }
+-- the line and the column of a place of a text
+abbrev pub place_at : Text → ℕ → LineCol
+place_at src place = record { line = line_at src place; column = column_at src place }
 
 -- a file whose bytes are read is accepted, or refused at a place of its text
 abbrev pub Judged : Text → Text → Answer → Type 0
 Judged name src a = (IsDefinition src × (a ≡ done))
     ⊎ ((place : ℕ) × (code : DefCode) × IsRefusedAt src place code
-    × (a ≡ refused name (line_at src place) (column_at src place) code))
+    × (a ≡ refused name (place_at src place) code))
 
 -- a file that isn't there is a read fault, and one that is too long isn't judged
 abbrev pub Checked : Text → Option Text → Answer → Type 0

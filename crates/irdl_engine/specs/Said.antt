@@ -21,7 +21,7 @@ abbrev pub said : Text → Outcome → Answer
 said name Accepted = done
 said name Unreadable = read_fault name
 said name TooLong = input_limit name
-said name (Refused r) = refused name r.place.line r.place.column r.code
+said name (Refused r) = refused name r.place r.code
 
 -- a refusal stands at the line and the column of this place
 pub record StandsAt (src : Text) (r : Refusal) (at : ℕ) : Type 0 where

@@ -8,7 +8,6 @@ mod check;
 mod command;
 mod judge;
 mod outcome;
-mod pieces;
 mod report;
 mod status;
 mod top;

@@ -8,10 +8,10 @@ ghost use Rattle.irdl_engine.specs.Said.{said};
 ghost use Rattle.irdl_engine.specs.Writes.{Says, change};
 
 use crate::outcome::{Outcome, Refusal};
-use crate::pieces::write_pieces;
 use crate::status::Status;
 use irdl_bytes::Sink;
 use itoa::Buffer;
+use text_layout::{write_pieces, write_refusal};
 
 /// The line for words that fit no form.
 const USAGE: &str = "usage: irdl_opt check DEF.. | verify MODULE DEF.. \
@@ -68,29 +68,15 @@ pub fn report<S: Sink>(err: &mut S, name: &str, outcome: &Outcome) -> Status
 
 /// Writes the line of a refusal.
 fn report_refusal<S: Sink>(err: &mut S, name: &str, refusal: &Refusal) -> Status
-    ensures says { let a = refused name.now refusal.now.place.line refusal.now.place.column
-        refusal.now.code in
+    ensures says { let a = refused name.now refusal.now.place refusal.now.code in
         Says a.status a.err result (change (S.written err.old) (S.written err.new)) }
     ensures fault { result ≡ Status.WriteFault → Rose (S.faults err.old) (S.faults err.new) }
     ensures later { S.faults err.old ≤ S.faults err.new }
 {
-    let mut line = Buffer::new();
-    let mut column = Buffer::new();
     let mut number = Buffer::new();
-    say(
-        err,
-        Status::DefinitionRefused,
-        &[
-            name.as_bytes(),
-            ":".as_bytes(),
-            line.format(refusal.place.line).as_bytes(),
-            ":".as_bytes(),
-            column.format(refusal.place.column).as_bytes(),
-            ": error ".as_bytes(),
-            number.format(refusal.code.number()).as_bytes(),
-            " ".as_bytes(),
-            refusal.code.name().as_bytes(),
-            "\n".as_bytes(),
-        ],
-    )
+    let code = number.format(refusal.code.number());
+    match write_refusal(err, name, refusal.place, code, refusal.code.name(), "") {
+        Ok(()) => Status::DefinitionRefused,
+        Err(_) => Status::WriteFault,
+    }
 }

@@ -264,7 +264,8 @@ fn the_first_fault_of_names_is_told(rt: HostRuntime) -> Result<(), Fail> {
     Ok(())
 }
 
-// A value name that is used on the line before its definition, or defined twice.
+// A value name that is defined twice, never, or on the line behind its use, where the form has no
+// definition.
 #[test]
 fn a_value_name_is_defined_once_and_before_its_use(rt: HostRuntime) -> Result<(), Fail> {
     let alloc = rt.alloc();
@@ -275,6 +276,14 @@ fn a_value_name_is_defined_once_and_before_its_use(rt: HostRuntime) -> Result<()
         ),
         (
             "irdl.operands(%0)\nirdl.results(%1)",
+            "f.irdl:1:52: error 4 RefUnknown\n",
+        ),
+        (
+            "irdl.operands(%0)\n%0 = irdl.any",
+            "f.irdl:2:1: error 1 Syntax\n",
+        ),
+        (
+            "irdl.operands(%0) } irdl.operation @p {\n%0 = irdl.any",
             "f.irdl:1:52: error 4 RefUnknown\n",
         ),
     ] {

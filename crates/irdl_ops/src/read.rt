@@ -5,7 +5,7 @@ ghost use Rattle.grammar.specs.Flat.{flat};
 ghost use Rattle.grammar.specs.Ran.{Kept, Reads, ReadsWhole};
 ghost use Rattle.grammar.specs.Looks.{any_of, passes};
 ghost use Rattle.grammar.specs.Rules.{many, opt, list};
-ghost use Rattle.std.specs.Prelude.{◌≡◌, ◌++◌, ◌||◌, IfOk};
+ghost use Rattle.std.specs.Prelude.{◌≡◌, ◌++◌, ◌||◌, IfOk, OnOk};
 ghost use Rattle.irdl_ops.specs.Definitions as spec;
 ghost use Rattle.irdl_ops.specs.Definitions.{DefText, TooDeepDef};
 
@@ -19,7 +19,7 @@ use grammar::{expect, expect_end, expect_word, is_class, is_word};
 use ir_lexer::{Class, TokenSource};
 use std::alloc::{AllocError, Global};
 
-/// Reads a definition file to its end. The source stays at the end.
+/// Reads a definition file to its end. Where it is accepted, the source stands at the end.
 ///
 /// A file is accepted exactly where the grammar of definition files derives its tokens. Any other
 /// is refused at the first token that no such file has there.
@@ -27,12 +27,14 @@ pub fn read_definitions<T: TokenSource>(alloc: Global, t: &mut T) -> Result<RawD
     ensures kept { Kept (T.state t.old) result (T.state t.new) }
     ensures answer { Told (T.state t.old) (λ ts. Answered DefText TooDeepDef ts result) }
     ensures accepts { Told (T.state t.old) (λ ts. Accepts DefText TooDeepDef ts result) }
+    ensures at_end { OnOk result ((T.state t.new).now.class ≡ Class.End) }
 {
     whole_file(alloc, t)
 }
 
 fn whole_file<T: TokenSource>(alloc: Global, t: &mut T) -> Result<RawDefs, SyntaxStop>
-    ensures { ReadsWhole flat spec.file (T.state t.old) result (T.state t.new) }
+    ensures whole { ReadsWhole flat spec.file (T.state t.old) result (T.state t.new) }
+    ensures at_end { OnOk result ((T.state t.new).now.class ≡ Class.End) }
 {
     let defs = file(alloc, t)?;
     expect_end(t)?;

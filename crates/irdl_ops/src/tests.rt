@@ -229,93 +229,99 @@ fn a_file_that_is_cut_is_refused_at_its_end(rt: HostRuntime) {
     }
 }
 
+/// Files, and the first token that no file has there: its place, and its sort.
+const OTHER_FILES: &[(&str, u32, SyntaxCode)] = &[
+    ("module {", 0, SyntaxCode::Syntax),
+    ("irdl.dialect cmath {}", 13, SyntaxCode::Syntax),
+    ("irdl.dialect 1.5 {}", 13, SyntaxCode::Float),
+    ("irdl.dialect ~ {}", 13, SyntaxCode::Bad),
+    ("irdl.dialect @a {} x", 19, SyntaxCode::Syntax),
+    (
+        "irdl.dialect @a {} irdl.dialect @b {}",
+        19,
+        SyntaxCode::Syntax,
+    ),
+    ("irdl.dialect @a { %0 = irdl.any }", 18, SyntaxCode::Syntax),
+    (
+        "irdl.dialect @a { irdl.operation @o { %0 irdl.any } }",
+        41,
+        SyntaxCode::Syntax,
+    ),
+    (
+        "irdl.dialect @a { irdl.operation @o { %0 = irdl.all } }",
+        43,
+        SyntaxCode::Syntax,
+    ),
+    (
+        "irdl.dialect @a { irdl.operation @o { %0 = irdl.is i0 } }",
+        51,
+        SyntaxCode::Syntax,
+    ),
+    (
+        "irdl.dialect @a { irdl.operation @o { %0 = irdl.is i16777216 } }",
+        51,
+        SyntaxCode::Syntax,
+    ),
+    (
+        "irdl.dialect @a { irdl.operation @o { %0 = irdl.is f32 } }",
+        51,
+        SyntaxCode::Syntax,
+    ),
+];
+
+/// Files whose lists are wrong, and the place of the first token that no file has there.
+const OTHER_LISTS: &[(&str, u32)] = &[
+    (
+        "irdl.dialect @a{irdl.operation @o{irdl.results()irdl.operands()}}",
+        48,
+    ),
+    (
+        "irdl.dialect @a{irdl.operation @o{irdl.operands()irdl.operands()}}",
+        49,
+    ),
+    (
+        "irdl.dialect @a{irdl.operation @o{irdl.results()irdl.results()}}",
+        48,
+    ),
+    (
+        "irdl.dialect @a{irdl.operation @o{irdl.operands(%0)%0=irdl.any}}",
+        51,
+    ),
+    (
+        "irdl.dialect @a{irdl.operation @o{irdl.results(%0)%0=irdl.any}}",
+        50,
+    ),
+    ("irdl.dialect @a{irdl.operation @o{irdl.operands %0)}}", 48),
+    ("irdl.dialect @a{irdl.operation @o{irdl.results}}", 46),
+    ("irdl.dialect @a{irdl.operation @o{irdl.operands(%0,)}}", 51),
+    ("irdl.dialect @a{irdl.operation @o{irdl.results(%0,)}}", 50),
+    ("irdl.dialect @a{irdl.operation @o{irdl.operands(,%0)}}", 48),
+    (
+        "irdl.dialect @a{irdl.operation @o{irdl.operands(%0 %1)}}",
+        51,
+    ),
+    (
+        "irdl.dialect @a{irdl.operation @o{irdl.operands(x %0)}}",
+        50,
+    ),
+    ("irdl.dialect @a{irdl.operation @o{irdl.operands(x:)}}", 50),
+    ("irdl.dialect @a{irdl.operation @o{irdl.operands(x)}}", 49),
+    (
+        "irdl.dialect @a{irdl.operation @o{irdl.operands(: %0)}}",
+        48,
+    ),
+];
+
 #[test]
 fn other_files_are_refused_at_the_first_wrong_token(rt: HostRuntime) {
-    for (text, place, code) in [
-        ("module {", 0, SyntaxCode::Syntax),
-        ("irdl.dialect cmath {}", 13, SyntaxCode::Syntax),
-        ("irdl.dialect 1.5 {}", 13, SyntaxCode::Float),
-        ("irdl.dialect ~ {}", 13, SyntaxCode::Bad),
-        ("irdl.dialect @a {} x", 19, SyntaxCode::Syntax),
-        (
-            "irdl.dialect @a {} irdl.dialect @b {}",
-            19,
-            SyntaxCode::Syntax,
-        ),
-        ("irdl.dialect @a { %0 = irdl.any }", 18, SyntaxCode::Syntax),
-        (
-            "irdl.dialect @a { irdl.operation @o { %0 irdl.any } }",
-            41,
-            SyntaxCode::Syntax,
-        ),
-        (
-            "irdl.dialect @a { irdl.operation @o { %0 = irdl.all } }",
-            43,
-            SyntaxCode::Syntax,
-        ),
-        (
-            "irdl.dialect @a { irdl.operation @o { %0 = irdl.is i0 } }",
-            51,
-            SyntaxCode::Syntax,
-        ),
-        (
-            "irdl.dialect @a { irdl.operation @o { %0 = irdl.is i16777216 } }",
-            51,
-            SyntaxCode::Syntax,
-        ),
-        (
-            "irdl.dialect @a { irdl.operation @o { %0 = irdl.is f32 } }",
-            51,
-            SyntaxCode::Syntax,
-        ),
-    ] {
-        is_refused(&rt, rt.alloc(), text.as_bytes(), place, code);
+    for (text, place, code) in OTHER_FILES {
+        is_refused(&rt, rt.alloc(), text.as_bytes(), *place, *code);
     }
 }
 
 #[test]
 fn other_lists_are_refused_at_the_first_wrong_token(rt: HostRuntime) {
-    for (text, place) in [
-        (
-            "irdl.dialect @a{irdl.operation @o{irdl.results()irdl.operands()}}",
-            48,
-        ),
-        (
-            "irdl.dialect @a{irdl.operation @o{irdl.operands()irdl.operands()}}",
-            49,
-        ),
-        (
-            "irdl.dialect @a{irdl.operation @o{irdl.results()irdl.results()}}",
-            48,
-        ),
-        (
-            "irdl.dialect @a{irdl.operation @o{irdl.operands(%0)%0=irdl.any}}",
-            51,
-        ),
-        (
-            "irdl.dialect @a{irdl.operation @o{irdl.results(%0)%0=irdl.any}}",
-            50,
-        ),
-        ("irdl.dialect @a{irdl.operation @o{irdl.operands %0)}}", 48),
-        ("irdl.dialect @a{irdl.operation @o{irdl.results}}", 46),
-        ("irdl.dialect @a{irdl.operation @o{irdl.operands(%0,)}}", 51),
-        ("irdl.dialect @a{irdl.operation @o{irdl.results(%0,)}}", 50),
-        ("irdl.dialect @a{irdl.operation @o{irdl.operands(,%0)}}", 48),
-        (
-            "irdl.dialect @a{irdl.operation @o{irdl.operands(%0 %1)}}",
-            51,
-        ),
-        (
-            "irdl.dialect @a{irdl.operation @o{irdl.operands(x %0)}}",
-            50,
-        ),
-        ("irdl.dialect @a{irdl.operation @o{irdl.operands(x:)}}", 50),
-        ("irdl.dialect @a{irdl.operation @o{irdl.operands(x)}}", 49),
-        (
-            "irdl.dialect @a{irdl.operation @o{irdl.operands(: %0)}}",
-            48,
-        ),
-    ] {
-        is_refused(&rt, rt.alloc(), text.as_bytes(), place, SyntaxCode::Syntax);
+    for (text, place) in OTHER_LISTS {
+        is_refused(&rt, rt.alloc(), text.as_bytes(), *place, SyntaxCode::Syntax);
     }
 }

@@ -1,4 +1,3 @@
-use Rattle.std.proofs.Common.{ap}
 use Rattle.irdl_engine.proofs.Judging.{names_fail}
 use Rattle.irdl_engine.proofs.judge.judge_file_names.Goals as goal
 

@@ -5,8 +5,10 @@ use Rattle.irdl_ops.proofs.read.read_definitions.Goals as goal
 
 pub returns-clause-answer : goal.returns-clause-answer
 unfolding DefText TooDeepDef
-returns-clause-answer g c = flat_answered file file_checked c.whole_file.result c.whole_file.ensures
+returns-clause-answer g c =
+    flat_answered file file_checked c.whole_file.result c.whole_file.ensures.whole
 
 pub returns-clause-accepts : goal.returns-clause-accepts
 unfolding DefText TooDeepDef
-returns-clause-accepts g c = flat_accepts file file_checked c.whole_file.result c.whole_file.ensures
+returns-clause-accepts g c =
+    flat_accepts file file_checked c.whole_file.result c.whole_file.ensures.whole

@@ -1,0 +1,10 @@
+pub mod Given
+pub mod Filled
+pub mod Loops
+pub mod Parts
+pub mod Tried
+pub mod Settled
+pub mod Found
+pub mod Order
+pub mod Goods
+pub mod Instances

@@ -1,0 +1,3 @@
+pub mod Roots
+pub mod Search
+pub mod Definitions

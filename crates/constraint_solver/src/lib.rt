@@ -1,0 +1,23 @@
+//! Whether values can be given to the variables of a body so that each keeps to its constraint, and
+//! whether a value keeps to the rules of its head and to its dialect's definitions.
+//!
+//! Begin at `solve` and `good_head`. What an assignment is, and when it meets a body, is said in
+//! `specs/Assignments.antt` of `dialect_defs`, and which values are good in its
+//! `specs/Goodness.antt`.
+#![tactic(auto)]
+
+mod assign;
+mod assignment;
+mod force;
+mod good;
+mod heads;
+mod search;
+mod sound;
+
+pub use assignment::Assignment;
+pub use good::good_head;
+pub use search::solve;
+pub use sound::{are_roots, are_sound_defs, is_sound_body};
+
+#[cfg(test)]
+mod tests;

@@ -1,0 +1,9 @@
+pub mod Changed
+pub mod Replay
+pub mod Adding
+pub mod Opening
+pub mod Inside
+pub mod ReadBack
+pub mod Stored
+pub mod Building
+pub mod Sites

@@ -1,0 +1,10 @@
+pub mod Appending
+pub mod Blanks
+pub mod Single
+pub mod Flows
+pub mod Gaps
+pub mod Going
+pub mod Laying
+pub mod Touching
+pub mod ReadsBack
+pub mod Classes

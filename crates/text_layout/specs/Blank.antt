@@ -1,0 +1,19 @@
+-- The bytes that stand before a token.
+use Rattle.std.specs.Prelude.{◌≤◌, [], ◌∷◌}
+use Rattle.ir_lexer.specs.Signs.{line_feed, space}
+use Rattle.ir_lexer.specs.Spelling.{Text}
+use Rattle.text_layout.specs.declared.blank.Blank.{Blank}
+use Rattle.text_layout.specs.declared.blank.Blank.TheVariants.{Nothing, Space, Indent, Break}
+use Rattle.text_layout.specs.Lines.{spaces}
+
+abbrev pub blank_text : Blank → Text
+blank_text Nothing = []
+blank_text Space = space ∷ []
+blank_text (Indent n) = spaces n
+blank_text (Break n) = line_feed ∷ spaces n
+
+-- the longest indent is that of a line feed literal in the deepest line
+abbrev pub IsShort : Blank → Type 0
+IsShort (Indent n) = n ≤ 132
+IsShort (Break n) = n ≤ 132
+IsShort _ = Unit {0}

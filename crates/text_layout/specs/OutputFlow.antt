@@ -1,0 +1,9 @@
+-- The flow of an output to a sink that got these bytes and failed so often.
+use Rattle.std.specs.Prelude.{ℕ, Option}
+use Rattle.ir_lexer.specs.Spelling.{Text}
+use Rattle.text_layout.specs.declared.output.Output.{Output}
+use Rattle.text_layout.specs.Flow.{Flow}
+
+abbrev pub flow_of : Output → Option Text → ℕ → Flow
+flow_of out written faults =
+    record { laid = out.laid; held = out.held.items; written = written; faults = faults }

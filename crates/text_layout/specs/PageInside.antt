@@ -1,0 +1,36 @@
+-- What the fields of a page mean, and what always holds of them.
+use Rattle.std.specs.Prelude.{◌+◌, ◌≤◌, length, Option, Some, None, vec_capacity}
+use Rattle.ir_lexer.specs.declared.lexer.TheConstants.{TEXT_LIMIT}
+use Rattle.ir_lexer.specs.Spelling.{Text, Spells}
+use Rattle.text_layout.specs.declared.output.Output.{Output}
+use Rattle.text_layout.specs.declared.page.Page.TheInside.{Inside}
+use Rattle.text_layout.specs.declared.rules.Ends.{Ends}
+use Rattle.text_layout.specs.Lines.{Row}
+use Rattle.text_layout.specs.Page.{Page}
+
+-- the classes at the ends of a line, and the text of the last token
+abbrev pub row_of : Option Ends → Text → Option Row
+row_of None text = None
+row_of (Some ends) text = Some (record { first = ends.first; last = ends.last; text = text })
+
+abbrev pub page_of : Inside → Page
+page_of p = record {
+  line = record { indent = p.indent; row = row_of p.ends p.spelling.items; gap = p.gap };
+  laid = p.output.laid;
+  held = p.output.held.items;
+  stopped = p.stopped;
+}
+
+-- room for a line feed
+abbrev pub HasRoom : Output → Type 0
+HasRoom out = length out.held.items + 1 ≤ vec_capacity out.held
+
+-- Where the line has a token, its text spells its class, and there is room for the line's end.
+abbrev pub IsRow : Option Ends → Text → Output → Type 0
+IsRow None text out = Unit {0}
+IsRow (Some ends) text out = Spells ends.last text × (length text ≤ TEXT_LIMIT) × HasRoom out
+
+pub record IsPage (p : Inside) : Type 0 where
+  pub indent : p.indent ≤ 130
+  pub within : p.output.laid ≤ TEXT_LIMIT
+  pub row : IsRow p.ends p.spelling.items p.output
