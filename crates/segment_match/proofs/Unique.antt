@@ -1,6 +1,7 @@
 -- There is at most one list of sizes: the given one where sizes have to be given, and otherwise the
 -- one that `spread` gives.
-use Rattle.std.proofs.Common.{Option, Some, None, IfSome, IsSomeAnd, subst, ◌≡◌, ℕ, ◌+◌, ◌-◌, ◌<◌, ◌≤◌}
+use Rattle.std.proofs.Common.{Option, Some, None, IfSome, IsSomeAnd, subst}
+use Rattle.std.proofs.Common.{◌≡◌, ℕ, ◌+◌, ◌-◌, ◌<◌, ◌≤◌}
 use Rattle.std.proofs.Common.{zero, suc, List, [], ◌∷◌, sum, map, length, refl, ap, ◌∙◌, sym}
 use Rattle.std.proofs.Common.{arith, ℤ, pos, ◌<ℤ◌, get_or, true, not, cond}
 use Rattle.std.proofs.lemmas.Bool.{ltb-true, lt-ltb}

@@ -1,0 +1,31 @@
+//! Does one kind of work many times, so that it can be timed, and prints how much came of it.
+//!
+//! usage: bench_calls (intern | solve | choices | lex | layout | store) COUNT
+#![tactic(auto)]
+
+use anyhow::{Context, Result, bail};
+use std::env;
+
+mod intern;
+mod layout;
+mod solve;
+mod store;
+
+fn main(rt: HostRuntime) -> Result<()> {
+    let words: Vec<String> = env::args(&rt)?.skip(1).collect(rt.alloc())?;
+    let [work, count] = words.as_slice() else {
+        bail!("usage: bench_calls (intern | solve | choices | lex | layout | store) COUNT");
+    };
+    let count: u32 = count.as_str().parse().context("COUNT is no number")?;
+    let made = match work.as_str() {
+        "intern" => intern::intern_values(rt.alloc(), count)?,
+        "solve" => solve::solve_pick(rt.alloc(), count)?,
+        "choices" => solve::walk_choices(rt.alloc(), count)?,
+        "lex" => layout::lex_operations(rt.alloc(), count)?,
+        "layout" => layout::lay_operations(rt.alloc(), count)?,
+        "store" => store::verify_module(rt.alloc(), count)?,
+        _ => bail!("no such work"),
+    };
+    println!(rt; "{made}")?;
+    Ok(())
+}

@@ -1,0 +1,76 @@
+-- How questions follow one another.
+use Rattle.std.proofs.Common.{List, length}
+use Rattle.std.proofs.Common.{refl}
+use Rattle.std.proofs.Common.{◌∙◌}
+use Rattle.attr_value.specs.Values.{Value}
+use Rattle.dialect_defs.specs.Assignments.{Assignment}
+use Rattle.op_verifier.specs.Asked.{Slots, AreKnownSlots, Rest, Asks, Refuses}
+
+module _ {values : List Value} where
+  -- at first all is left
+  pub rest-start : (s : Slots) (Q : Assignment → Type 0) → AreKnownSlots (length values) s
+      → Rest values s s Q Q
+  rest-start s Q known = record {
+    size = refl;
+    known = known;
+    down = λ a w q. (w, q);
+    up = λ a w q. (w, q);
+  }
+
+  -- of what is left, a part is asked
+  pub rest-step : {old now new : Slots} {Q R P S : Assignment → Type 0}
+      → Rest values old now Q R → ((a : Assignment) → R a → P a × S a)
+      → ((a : Assignment) → P a → S a → R a) → Asks values now new P → Rest values old new Q S
+  rest-step r split join asks = record {
+    size = asks.size ∙ r.size;
+    known = asks.known;
+    down = λ a w q.
+        let before = r.down a w q in
+        let parts = split a before.1 in
+        ((asks.down a before.0 parts.0).0, parts.1);
+    up = λ a w s.
+        let before = asks.up a w tt in
+        r.up a before.0 (join a before.1 s);
+  }
+
+  -- a part of what is left is refused
+  pub rest-refused : {old now : Slots} {Q R P : Assignment → Type 0} → Rest values old now Q R
+      → ((a : Assignment) → R a → P a) → Refuses values now P → Refuses values old Q
+  rest-refused r split refuses = record {
+    none = λ a w q. let before = r.down a w q in refuses.none a before.0 (split a before.1);
+  }
+
+  -- nothing is left
+  pub rest-end : {old now : Slots} {Q R : Assignment → Type 0} → Rest values old now Q R
+      → ((a : Assignment) → R a) → Asks values old now Q
+  rest-end r all = record {
+    size = r.size;
+    known = r.known;
+    down = λ a w q. ((r.down a w q).0, tt);
+    up = λ a w u. r.up a w (all a);
+  }
+
+  -- what is left can't be had
+  pub rest-never : {old now : Slots} {Q R : Assignment → Type 0} → Rest values old now Q R
+      → ((a : Assignment) → R a → ⊥) → Refuses values old Q
+  rest-never r never = record { none = λ a w q. never a (r.down a w q).1 }
+
+  -- what is left, said otherwise
+  pub rest-as : {old now : Slots} {Q R S : Assignment → Type 0} → Rest values old now Q R
+      → ((a : Assignment) → R a → S a) → ((a : Assignment) → S a → R a) → Rest values old now Q S
+  rest-as r to from = record {
+    size = r.size;
+    known = r.known;
+    down = λ a w q. let now = r.down a w q in (now.0, to a now.1);
+    up = λ a w s. r.up a w (from a s);
+  }
+
+  -- the same of the whole
+  pub rest-of : {old now : Slots} {Q P R : Assignment → Type 0} → Rest values old now Q R
+      → ((a : Assignment) → Q a → P a) → ((a : Assignment) → P a → Q a) → Rest values old now P R
+  rest-of r to from = record {
+    size = r.size;
+    known = r.known;
+    down = λ a w p. r.down a w (from a p);
+    up = λ a w s. let before = r.up a w s in (before.0, to a before.1);
+  }

@@ -1,0 +1,10 @@
+pub mod Asking
+pub mod Slots
+pub mod Found
+pub mod Walks
+pub mod PartSteps
+pub mod RegionSteps
+pub mod RootLists
+pub mod AllParts
+pub mod Judging
+pub mod Fronts

@@ -1,0 +1,139 @@
+-- What entries ask, part by part.
+use Rattle.std.proofs.Common.{◌≡◌, ℕ, suc, ◌+◌, ◌-◌, true, false, List, []}
+use Rattle.std.proofs.Common.{◌∷◌, length, sum, take, drop, slice_get, refl, ap, sym}
+use Rattle.std.proofs.Common.{◌∙◌, subst, arith, Option, Some, None, ℤ}
+use Rattle.std.proofs.lemmas.List.{drop-drop}
+use Rattle.std.proofs.lemmas.List.Sums.{sum_by-cons}
+use Rattle.std.specs.List.{AllByRecursion}
+use Rattle.arrayvec.specs.ArrayVec.{ArrayVec}
+use Rattle.attr_value.specs.Values.{Value}
+use Rattle.dialect_defs.specs.declared.entry.AttrEntry.{AttrEntry}
+use Rattle.dialect_defs.specs.declared.entry.Entry.{Entry}
+use Rattle.dialect_defs.specs.Assignments.{Assignment, Has}
+use Rattle.dialect_defs.specs.Operations.{EntriesHave, AttrHas}
+use Rattle.dialect_defs.specs.Segments.{FitEach, Segments, parts}
+use Rattle.op_verifier.specs.Asked.{Slots, AreKnownSlots, Asks, Refuses}
+use Rattle.op_verifier.specs.Parts.{HasSegments}
+use Rattle.op_verifier.proofs.Asking.{rest-start, rest-end, rest-never, rest-of}
+use Rattle.op_verifier.proofs.Walks.{drop-next}
+
+module _ (values : List Value) (entry : AttrEntry) where
+  -- an attribute that is there
+  pub some-asks : (s t : Slots) (o : Option Value) (x : Value) → o ≡ Some x
+      → Asks values s t (λ a. Has a entry.var x) → Asks values s t (λ a. AttrHas a entry o)
+  some-asks s t o x e asks =
+      rest-of asks (λ a has. subst (AttrHas a entry) (sym e) has)
+      (λ a has. subst (AttrHas a entry) e has)
+
+  pub some-refuses : (s : Slots) (o : Option Value) (x : Value) → o ≡ Some x
+      → Refuses values s (λ a. Has a entry.var x) → Refuses values s (λ a. AttrHas a entry o)
+  some-refuses s o x e refuses = record {
+    none = λ a w has. refuses.none a w (subst (AttrHas a entry) e has);
+  }
+
+  -- an attribute that is missing
+  pub none-asks : (s : Slots) (o : Option Value) → o ≡ None → AreKnownSlots (length values) s
+      → entry.optional ≡ true → Asks values s s (λ a. AttrHas a entry o)
+  none-asks s o e known optional =
+      rest-end (rest-start s (λ a. AttrHas a entry o) known)
+      (λ a. subst (AttrHas a entry) (sym e) optional)
+
+  pub none-refuses : (s : Slots) (o : Option Value) → o ≡ None → AreKnownSlots (length values) s
+      → entry.optional ≡ false → Refuses values s (λ a. AttrHas a entry o)
+  none-refuses s o e known required =
+      rest-never (rest-start s (λ a. AttrHas a entry o) known)
+      (λ a has. let optional : entry.optional ≡ true = subst (AttrHas a entry) e has in cc)
+
+module _ (entries : List Entry) (sizes : List ℕ) (vs : List Value) (i start : ℕ) (entry : Entry)
+    (n : ℕ) where
+  -- the next segment, and those behind it
+  pub segment-first : (a : Assignment) → slice_get entries i ≡ Some entry
+      → slice_get sizes i ≡ Some n
+      → EntriesHave a (drop i entries) (parts (drop i sizes) (drop start vs))
+      → AllByRecursion (Has a entry.var) (take ((start + n) - start) (drop start vs))
+      × EntriesHave a (drop (i + 1) entries)
+      (parts (drop (i + 1) sizes) (drop (start + n) vs))
+  segment-first a e f have =
+      let one = subst (λ es. EntriesHave a es (parts (drop i sizes) (drop start vs)))
+      (drop-next entries i entry e) have in
+      let two = subst (λ ns. EntriesHave a (entry ∷ drop (i + 1) entries)
+      (parts ns (drop start vs))) (drop-next sizes i n f) one in
+      let count : n ≡ (start + n) - start = omega arith in (
+        subst (λ k. AllByRecursion (Has a entry.var) (take k (drop start vs))) count two.0,
+        subst (λ xs. EntriesHave a (drop (i + 1) entries) (parts (drop (i + 1) sizes) xs))
+            (drop-drop n start vs) two.1,
+      )
+
+  pub segment-joined : (a : Assignment) → slice_get entries i ≡ Some entry
+      → slice_get sizes i ≡ Some n
+      → AllByRecursion (Has a entry.var) (take ((start + n) - start) (drop start vs))
+      → EntriesHave a (drop (i + 1) entries) (parts (drop (i + 1) sizes) (drop (start + n) vs))
+      → EntriesHave a (drop i entries) (parts (drop i sizes) (drop start vs))
+  segment-joined a e f here later =
+      let count : (start + n) - start ≡ n = omega arith in
+      let first = subst (λ k. AllByRecursion (Has a entry.var) (take k (drop start vs)))
+      count here in
+      let rest = subst (λ xs. EntriesHave a (drop (i + 1) entries) (parts (drop (i + 1) sizes) xs))
+      (sym (drop-drop n start vs)) later in
+      let one = subst (λ ns. EntriesHave a (entry ∷ drop (i + 1) entries)
+      (parts ns (drop start vs))) (sym (drop-next sizes i n f)) (first, rest) in
+      subst (λ es. EntriesHave a es (parts (drop i sizes) (drop start vs)))
+      (sym (drop-next entries i entry e)) one
+
+pub sum-next : (sizes : List ℕ) (i n : ℕ) → slice_get sizes i ≡ Some n
+    → sum (drop i sizes) ≡ n + sum (drop (i + 1) sizes)
+sum-next sizes i n e =
+    ap sum (drop-next sizes i n e) ∙ sum_by-cons (λ x. x) n (drop (i + 1) sizes)
+
+pub all-entries : (a : Assignment) (entries : List Entry) (sizes : List ℕ) (i : ℕ) (vs : List Value)
+    → drop i entries ≡ [] → drop i sizes ≡ []
+    → EntriesHave a (drop i entries) (parts (drop i sizes) vs)
+all-entries a entries sizes i vs e f =
+    let inner = subst (λ ns. EntriesHave a [] (parts ns vs)) (sym f) tt in
+    subst (λ es. EntriesHave a es (parts (drop i sizes) vs)) (sym e) inner
+
+pub fit-length : (entries : List Entry) (sizes : List ℕ) → FitEach entries sizes
+    → length sizes ≡ length entries
+fit-length [] [] h = refl
+fit-length (e ∷ es) (n ∷ ns) h = ap suc (fit-length es ns h.1)
+fit-length [] (n ∷ ns) h = absurd h
+fit-length (e ∷ es) [] h = absurd h
+
+module _ (values : List Value) (entries : List Entry) (vs : List Value) (given : Option (List ℤ))
+  where
+    -- the sizes that were found are those of any segments
+    pub segments-ask : (s t : Slots) (n : ℕ) (found : ArrayVec ℕ) → n ≡ length vs
+        → Segments entries n given found.items
+        → ((sizes : List ℕ) → Segments entries n given sizes → found.items ≡ sizes)
+        → Asks values s t (λ a. EntriesHave a entries (parts found.items vs))
+        → Asks values s t (λ a. HasSegments a entries vs given)
+    segments-ask s t n found count segments only asks =
+        rest-of asks
+        (λ a have. record {
+          sizes = found.items;
+          segments = subst (λ m. Segments entries m given found.items) count segments;
+          have = have;
+        })
+        (λ a h. subst (λ sizes. EntriesHave a entries (parts sizes vs))
+        (sym (only h.sizes
+        (subst (λ m. Segments entries m given h.sizes) (sym count) h.segments)))
+        h.have)
+
+    pub segments-refuse : (s : Slots) (n : ℕ) (found : ArrayVec ℕ) → n ≡ length vs
+        → ((sizes : List ℕ) → Segments entries n given sizes → found.items ≡ sizes)
+        → Refuses values s (λ a. EntriesHave a entries (parts found.items vs))
+        → Refuses values s (λ a. HasSegments a entries vs given)
+    segments-refuse s n found count only refuses = record {
+      none = λ a w h. refuses.none a w (subst (λ sizes. EntriesHave a entries (parts sizes vs))
+          (sym (only h.sizes
+          (subst (λ m. Segments entries m given h.sizes) (sym count) h.segments)))
+          h.have);
+    }
+
+    pub no-segments : (s : Slots) (n : ℕ) → n ≡ length vs
+        → ((sizes : List ℕ) → Segments entries n given sizes → ⊥)
+        → Refuses values s (λ a. HasSegments a entries vs given)
+    no-segments s n count never = record {
+      none = λ a w h. never h.sizes
+          (subst (λ m. Segments entries m given h.sizes) (sym count) h.segments);
+    }

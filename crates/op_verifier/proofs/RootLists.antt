@@ -1,0 +1,151 @@
+-- What is asked of variables, as a list of roots.
+use Rattle.std.proofs.Common.{◌≡◌, ℕ, zero, suc, ◌+◌, ◌<◌, ◌≤◌, List, [], ◌∷◌, ◌++◌, length}
+use Rattle.std.proofs.Common.{Option, Some, None, option_map, slice_get, drop, refl, ap, sym}
+use Rattle.std.proofs.Common.{◌∙◌, subst, arith, append_assoc, append-nil}
+use Rattle.std.proofs.Math.ListN.{drop_of_length-le}
+use Rattle.std.proofs.lemmas.Option.{slice_get-map}
+use Rattle.std.specs.List.{AllByRecursion}
+use Rattle.attr_value.specs.declared.head.ValueId.{ValueId}
+use Rattle.attr_value.specs.Ids.{at}
+use Rattle.attr_value.specs.Values.{Value}
+use Rattle.dialect_defs.specs.declared.body.VarId.{VarId}
+use Rattle.dialect_defs.specs.Assignments.{Assignment, Has}
+use Rattle.constraint_solver.specs.Roots.{assigned}
+use Rattle.op_verifier.specs.Asked.{Slots, Within, AreKnownSlots}
+use Rattle.op_verifier.specs.Parts.{root_of, roots_of}
+use Rattle.op_verifier.proofs.Slots.{asked-get}
+use Rattle.op_verifier.proofs.Walks.{drop-next}
+
+pub roots-next : (slots : Slots) (i : ℕ) (slot : Option ValueId) → slice_get slots i ≡ Some slot
+    → roots_of i (drop i slots) ≡ root_of i slot ++ roots_of (i + 1) (drop (i + 1) slots)
+roots-next slots i slot e = ap (roots_of i) (drop-next slots i slot e)
+
+pub roots-end : (slots : Slots) (i : ℕ) → length slots ≤ i → roots_of i (drop i slots) ≡ []
+roots-end slots i past = ap (roots_of i) (drop_of_length-le slots {i = i} past)
+
+-- a root's variable has its value
+abbrev pub RootHas : List Value → Assignment → VarId × ValueId → Type 0
+RootHas values a root = Has a root.0 (at values root.1.0)
+
+all-append : {X : Type 0} (P : X → Type 0) (xs ys : List X) → AllByRecursion P (xs ++ ys)
+    → AllByRecursion P xs × AllByRecursion P ys
+all-append P [] ys all = (tt, all)
+all-append P (x ∷ xs) ys all = let rest = all-append P xs ys all.1 in ((all.0, rest.0), rest.1)
+
+append-all : {X : Type 0} (P : X → Type 0) (xs ys : List X) → AllByRecursion P xs
+    → AllByRecursion P ys → AllByRecursion P (xs ++ ys)
+append-all P [] ys first second = second
+append-all P (x ∷ xs) ys first second = (first.0, append-all P xs ys first.1 second)
+
+-- the variables from n on have what is asked of them
+abbrev WithinFrom : List Value → ℕ → Slots → Assignment → Type 0
+WithinFrom values n slots a =
+    (i : ℕ) (id : ValueId) → slice_get slots i ≡ Some (Some id)
+    → slice_get a (n + i) ≡ Some (Some (at values id.0))
+
+within-of-roots : (values : List Value) (n : ℕ) (slots : Slots) (a : Assignment)
+    → AllByRecursion (RootHas values a) (roots_of n slots) → WithinFrom values n slots a
+within-of-roots values n [] a all i id e = cc
+within-of-roots values n (None ∷ slots) a all zero id e = cc
+within-of-roots values n (Some x ∷ slots) a all zero id e =
+    let same : x ≡ id = cc in
+    let start : n ≡ n + 0 = omega arith in
+    let first : slice_get a n ≡ Some (Some (at values x.0)) = all.0 in
+    subst (λ k. slice_get a k ≡ Some (Some (at values id.0))) start
+    (first ∙ ap (λ (y : ValueId). Some (Some (at values y.0))) same)
+within-of-roots values n (slot ∷ slots) a all (suc i) id e =
+    let next : n + 1 + i ≡ n + suc i = omega arith in
+    let rest = (all-append (RootHas values a) (root_of n slot) (roots_of (n + 1) slots) all).1 in
+    subst (λ k. slice_get a k ≡ Some (Some (at values id.0))) next
+    (within-of-roots values (n + 1) slots a rest i id e)
+
+root-holds : (values : List Value) (n : ℕ) (slot : Option ValueId) (slots : Slots) (a : Assignment)
+    → WithinFrom values n (slot ∷ slots) a → AllByRecursion (RootHas values a) (root_of n slot)
+root-holds values n None slots a within = tt
+root-holds values n (Some id) slots a within =
+    let start : n + 0 ≡ n = omega arith in
+    (subst (λ k. slice_get a k ≡ Some (Some (at values id.0))) start (within 0 id refl), tt)
+
+roots-of-within : (values : List Value) (n : ℕ) (slots : Slots) (a : Assignment)
+    → WithinFrom values n slots a → AllByRecursion (RootHas values a) (roots_of n slots)
+roots-of-within values n [] a within = tt
+roots-of-within values n (slot ∷ slots) a within =
+    append-all (RootHas values a) (root_of n slot) (roots_of (n + 1) slots)
+    (root-holds values n slot slots a within)
+    (roots-of-within values (n + 1) slots a (λ i id e.
+    let next : n + suc i ≡ n + 1 + i = omega arith in
+    subst (λ k. slice_get a k ≡ Some (Some (at values id.0))) next (within (suc i) id e)))
+
+option-some : (values : List Value) (o : Option (Option ValueId)) (x : Value)
+    → option_map (option_map (λ (id : ValueId). at values id.0)) o ≡ Some (Some x)
+    → (id : ValueId) × (o ≡ Some (Some id)) × (at values id.0 ≡ x)
+option-some values None x e = cc
+option-some values (Some None) x e = cc
+option-some values (Some (Some id)) x e = let same : at values id.0 ≡ x = cc in (id, refl, same)
+
+-- a map that has the roots has what is asked, and the other way round
+pub roots-within : (values : List Value) (slots : Slots) (a : Assignment)
+    → AllByRecursion (RootHas values a) (roots_of 0 slots) → Within (assigned values slots) a
+roots-within values slots a all v x has =
+    let got = option-some values (slice_get slots v.0) x
+    (sym (slice_get-map (option_map (λ (id : ValueId). at values id.0)) slots v.0) ∙ has) in
+    let start : 0 + v.0 ≡ v.0 = omega arith in
+    subst (λ k. slice_get a k ≡ Some (Some (at values got.0.0))) start
+    (within-of-roots values 0 slots a all v.0 got.0 got.1)
+    ∙ ap (λ y. Some (Some y)) got.2
+
+pub within-roots : (values : List Value) (slots : Slots) (a : Assignment)
+    → Within (assigned values slots) a → AllByRecursion (RootHas values a) (roots_of 0 slots)
+within-roots values slots a within =
+    roots-of-within values 0 slots a (λ i id e.
+    let start : i ≡ 0 + i = omega arith in
+    subst (λ k. slice_get a k ≡ Some (Some (at values id.0))) start
+    (within (record { 0 = i }) (at values id.0) (asked-get values slots i id e)))
+
+-- the roots are those of a body of as many variables
+pub roots-vars : (n total : ℕ) (slots : Slots) → n + length slots ≤ total
+    → AllByRecursion (λ (root : VarId × ValueId). root.0.0 < total) (roots_of n slots)
+roots-vars n total [] within = tt
+roots-vars n total (None ∷ slots) within = roots-vars (n + 1) total slots (omega arith)
+roots-vars n total (Some id ∷ slots) within =
+    (omega arith, roots-vars (n + 1) total slots (omega arith))
+
+pub roots-ids : (n len : ℕ) (slots : Slots) → AreKnownSlots len slots
+    → AllByRecursion (λ (root : VarId × ValueId). root.1.0 < len) (roots_of n slots)
+roots-ids n len [] known = tt
+roots-ids n len (None ∷ slots) known = roots-ids (n + 1) len slots (λ i id e. known (suc i) id e)
+roots-ids n len (Some id ∷ slots) known =
+    (known 0 id refl, roots-ids (n + 1) len slots (λ i id e. known (suc i) id e))
+
+pub none-known : (len : ℕ) (slots : Slots) → AllByRecursion (λ slot. slot ≡ None) slots
+    → AreKnownSlots len slots
+none-known len [] all i id e = cc
+none-known len (slot ∷ slots) all zero id e = let none : slot ≡ None = all.0 in cc
+none-known len (slot ∷ slots) all (suc i) id e = none-known len slots all.1 i id e
+
+pub none-within : (values : List Value) (slots : Slots) → AllByRecursion (λ slot. slot ≡ None) slots
+    → (a : Assignment) → Within (assigned values slots) a
+none-within values slots all a = roots-within values slots a (empty 0 slots all) where
+  empty : (n : ℕ) (slots : Slots) → AllByRecursion (λ slot. slot ≡ None) slots
+      → AllByRecursion (RootHas values a) (roots_of n slots)
+  empty n [] all = tt
+  empty n (slot ∷ slots) all =
+      append-all (RootHas values a) (root_of n slot) (roots_of (n + 1) slots)
+      (subst (λ s. AllByRecursion (RootHas values a) (root_of n s)) (sym all.0) tt)
+      (empty (n + 1) slots all.1)
+
+-- a list of roots grows by one variable
+pub made-step : (slots : Slots) (i : ℕ) (slot : Option ValueId)
+    (before after all : List (VarId × ValueId))
+    → slice_get slots i ≡ Some slot → after ≡ before ++ root_of i slot
+    → before ++ roots_of i (drop i slots) ≡ all
+    → after ++ roots_of (i + 1) (drop (i + 1) slots) ≡ all
+made-step slots i slot before after all e grown made =
+    ap (λ l. l ++ roots_of (i + 1) (drop (i + 1) slots)) grown
+    ∙ append_assoc before (root_of i slot) (roots_of (i + 1) (drop (i + 1) slots))
+    ∙ ap (λ l. before ++ l) (sym (roots-next slots i slot e)) ∙ made
+
+pub made-all : (slots : Slots) (i : ℕ) (before all : List (VarId × ValueId)) → length slots ≤ i
+    → before ++ roots_of i (drop i slots) ≡ all → before ≡ all
+made-all slots i before all past made =
+    sym (append-nil before) ∙ ap (λ l. before ++ l) (sym (roots-end slots i past)) ∙ made

@@ -1,0 +1,53 @@
+use Rattle.std.proofs.Common.{◌∙◌, ap, refl, length, arith}
+use Rattle.native_predicate.specs.Lists.{tests}
+use Rattle.constraint_solver.specs.Roots.{HasRoots}
+use Rattle.dialect_defs.specs.Assignments.{Meets}
+use Rattle.dialect_defs.specs.Operations.{MeetsDefinition}
+use Rattle.ir_store.specs.Numbering.{ops_in}
+use Rattle.op_verifier.specs.Seen.{seen}
+use Rattle.op_verifier.specs.Types.{ids_of}
+use Rattle.op_verifier.proofs.RegionSteps.{an-element}
+use Rattle.op_verifier.proofs.Judging.{refused, solved, unsolved, roots-sound, decided}
+use Rattle.op_verifier.proofs.judge.judge.Goals as goal
+
+pub returns-then-not-ask_parts : goal.returns-then-not-ask_parts
+returns-then-not-ask_parts g c =
+    let says = tests (λ p. (g.dyn-1.0.entry p.0).1.property p.1) c.args.natives.now in
+    λ x e. (
+      λ yes. absurd (cc yes),
+      λ m. absurd (refused c.args.u.now says c.args.def.now
+          (seen c.args.u.now (ids_of c.args.types.now) x) c.new-wanted.result.slots.items
+          c.new-wanted.ensures.none (c.if-not-ask_parts.ensures.refuses x e refl) m),
+    )
+
+pub roots-roots-requires : goal.roots-roots-requires
+roots-roots-requires g c =
+    let x = an-element (ops_in c.args.store.now) c.args.op.0 c.requires.op in
+    let asks = c.if-not-ask_parts.ensures.asks x.0 x.1 refl in
+    let vars = ap length c.as_slice.ensures in
+    omega (arith, asks.size, vars, c.new-wanted.ensures.size, c.requires.def.body.few)
+
+pub solve-requires-clause-roots : goal.solve-requires-clause-roots
+solve-requires-clause-roots g c =
+    let x = an-element (ops_in c.args.store.now) c.args.op.0 c.requires.op in
+    let asks = c.if-not-ask_parts.ensures.asks x.0 x.1 refl in
+    roots-sound (length c.args.u.now) c.args.def.now.body c.ask_parts.new.self.slots.items
+    c.as_slice-2.result.now (c.as_slice-2.ensures ∙ c.roots-roots.ensures.items)
+    (asks.size ∙ c.new-wanted.ensures.size ∙ ap length c.as_slice.ensures) asks.known
+
+pub returns : goal.returns
+returns g c =
+    let says = tests (λ p. (g.dyn-1.0.entry p.0).1.property p.1) c.args.natives.now in
+    let roots = c.as_slice-2.ensures ∙ c.roots-roots.ensures.items in
+    λ x e.
+    let o = seen c.args.u.now (ids_of c.args.types.now) x in
+    let asks = c.if-not-ask_parts.ensures.asks x e refl in
+    decided c.solve.result c.is_some.result (Meets c.args.u.now says c.args.def.now.body)
+    (HasRoots c.args.u.now c.as_slice-2.result.now)
+    (MeetsDefinition c.args.u.now says c.args.def.now o) c.args.u.now c.is_some.ensures
+    c.solve.ensures.meets c.solve.ensures.roots c.solve.ensures.none
+    (λ a body has. solved c.args.u.now says c.args.def.now o c.new-wanted.result.slots.items
+    c.ask_parts.new.self.slots.items c.as_slice-2.result.now a roots asks body has)
+    (λ never. unsolved c.args.u.now says c.args.def.now o c.new-wanted.result.slots.items
+    c.ask_parts.new.self.slots.items c.as_slice-2.result.now c.new-wanted.ensures.none
+    roots asks never)

@@ -1,0 +1,7 @@
+pub mod Seen
+pub mod Sound
+pub mod Asked
+pub mod Parts
+pub mod Types
+pub mod Keys
+pub mod Meets

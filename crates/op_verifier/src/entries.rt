@@ -1,0 +1,148 @@
+//! What operands, results and attributes ask of variables.
+
+ghost use Rattle.std.specs.Prelude.{◌≡◌, ◌<◌, ◌≤◌, ◌-◌, ◌^◌, length, IsTrue, false};
+ghost use Rattle.std.specs.Prelude.{take, drop, sum, option_copied};
+ghost use Rattle.std.specs.List.{AllByRecursion};
+ghost use Rattle.attr_value.specs.Ids.{at, AreKnown};
+ghost use Rattle.dialect_defs.specs.Assignments.{Has};
+ghost use Rattle.dialect_defs.specs.Operations.{EntriesHave, AttrHas, attr_at};
+ghost use Rattle.dialect_defs.specs.Segments.{parts};
+ghost use Rattle.ir_store.specs.Named.{AttrsAreRight};
+ghost use Rattle.ir_store.specs.Store.{head_of};
+ghost use Rattle.op_verifier.specs.Asked.{AreKnownSlots, Asks, Refuses};
+ghost use Rattle.op_verifier.specs.Parts.{HasSegments};
+ghost use Rattle.op_verifier.specs.Seen.{values_at, attrs_seen};
+ghost use Rattle.op_verifier.specs.Sound.{EntriesAreBelow, AttrsAreBelow};
+ghost use Rattle.op_verifier.specs.Types.{ids_of};
+
+use crate::attrs::attribute;
+use crate::operands::Types;
+use crate::wanted::Wanted;
+use attr_uniquer::Uniquer;
+use dialect_defs::{AttrEntry, Entry, VarId};
+use ir_store::OpRow;
+use segment_match::sizes;
+
+impl Wanted {
+    /// Asks the types from `start` to `end` of a variable.
+    fn ask_all(&mut self, u: &Uniquer, var: VarId, types: &Types, start: usize, end: usize) -> bool
+        requires slots { AreKnownSlots (length u.now) self.old.slots.items }
+        requires var { var.0 < length self.old.slots.items }
+        requires known { AreKnown (length u.now) (ids_of types.now) }
+        requires order { start ≤ end }
+        requires within { end ≤ length (ids_of types.now) }
+        ensures asks { IsTrue result → Asks u.now self.old.slots.items self.new.slots.items
+            (λ a. AllByRecursion (Has a var)
+            (take (end - start) (drop start (values_at u.now (ids_of types.now))))) }
+        ensures refuses { result ≡ false → Refuses u.now self.old.slots.items
+            (λ a. AllByRecursion (Has a var)
+            (take (end - start) (drop start (values_at u.now (ids_of types.now))))) }
+    {
+        for i in start..end {
+            if !self.ask(u, var, types.get(i)) {
+                return false;
+            }
+        }
+        true
+    }
+
+    /// Asks the types of each segment of its entry's variable.
+    fn ask_entries(
+        &mut self,
+        u: &Uniquer,
+        entries: &[Entry],
+        sizes: &[usize],
+        types: &Types,
+    ) -> bool
+        requires slots { AreKnownSlots (length u.now) self.old.slots.items }
+        requires vars { EntriesAreBelow (length self.old.slots.items) entries.now }
+        requires known { AreKnown (length u.now) (ids_of types.now) }
+        requires count { length sizes.now ≡ length entries.now }
+        requires total { sum sizes.now ≡ length (ids_of types.now) }
+        requires fits { length (ids_of types.now) < 2 ^ 64 }
+        ensures asks { IsTrue result → Asks u.now self.old.slots.items self.new.slots.items
+            (λ a. EntriesHave a entries.now
+            (parts sizes.now (values_at u.now (ids_of types.now)))) }
+        ensures refuses { result ≡ false → Refuses u.now self.old.slots.items
+            (λ a. EntriesHave a entries.now
+            (parts sizes.now (values_at u.now (ids_of types.now)))) }
+    {
+        let mut start = 0;
+        for (i, entry) in entries.iter().enumerate() {
+            let end = start + sizes[i];
+            if !self.ask_all(u, entry.var, types, start, end) {
+                return false;
+            }
+            start = end;
+        }
+        true
+    }
+
+    /// Asks that the types fall into segments, and those of each segment of its entry's variable.
+    pub(crate) fn ask_segments(
+        &mut self,
+        u: &Uniquer,
+        entries: &[Entry],
+        types: &Types,
+        given: Option<&[i64]>,
+    ) -> bool
+        requires slots { AreKnownSlots (length u.now) self.old.slots.items }
+        requires vars { EntriesAreBelow (length self.old.slots.items) entries.now }
+        requires few { length entries.now ≤ 32 }
+        requires known { AreKnown (length u.now) (ids_of types.now) }
+        ensures asks { IsTrue result → Asks u.now self.old.slots.items self.new.slots.items
+            (λ a. HasSegments a entries.now (values_at u.now (ids_of types.now))
+            (option_copied given.entry)) }
+        ensures refuses { result ≡ false → Refuses u.now self.old.slots.items
+            (λ a. HasSegments a entries.now (values_at u.now (ids_of types.now))
+            (option_copied given.entry)) }
+    {
+        let Some(sizes) = sizes(entries, types.len(), given) else {
+            return false;
+        };
+        self.ask_entries(u, entries, sizes.as_slice(), types)
+    }
+
+    /// Asks an attribute's value of its entry's variable. One that is missing has to be optional.
+    fn ask_attr(&mut self, u: &Uniquer, entry: &AttrEntry, row: &OpRow) -> bool
+        requires slots { AreKnownSlots (length u.now) self.old.slots.items }
+        requires var { entry.now.var.0 < length self.old.slots.items }
+        requires attrs { AttrsAreRight (head_of row.now) }
+        requires known { AreKnown (length u.now) row.now.values }
+        ensures asks { IsTrue result → Asks u.now self.old.slots.items self.new.slots.items
+            (λ a. AttrHas a entry.now (attr_at
+            (attrs_seen u.now row.now.keys row.now.values) entry.now.name)) }
+        ensures refuses { result ≡ false → Refuses u.now self.old.slots.items
+            (λ a. AttrHas a entry.now (attr_at
+            (attrs_seen u.now row.now.keys row.now.values) entry.now.name)) }
+    {
+        match attribute(row, entry.name.bytes()) {
+            Some(id) => self.ask(u, entry.var, id),
+            None => entry.optional,
+        }
+    }
+
+    /// Asks each attribute's value of its entry's variable. Those that are missing have to be
+    /// optional.
+    pub(crate) fn ask_attrs(&mut self, u: &Uniquer, entries: &[AttrEntry], row: &OpRow) -> bool
+        requires slots { AreKnownSlots (length u.now) self.old.slots.items }
+        requires vars { AttrsAreBelow (length self.old.slots.items) entries.now }
+        requires attrs { AttrsAreRight (head_of row.now) }
+        requires known { AreKnown (length u.now) row.now.values }
+        ensures asks { IsTrue result → Asks u.now self.old.slots.items self.new.slots.items
+            (λ a. AllByRecursion (λ entry. AttrHas a entry (attr_at
+            (attrs_seen u.now row.now.keys row.now.values) entry.name))
+            entries.now) }
+        ensures refuses { result ≡ false → Refuses u.now self.old.slots.items
+            (λ a. AllByRecursion (λ entry. AttrHas a entry (attr_at
+            (attrs_seen u.now row.now.keys row.now.values) entry.name))
+            entries.now) }
+    {
+        for entry in entries {
+            if !self.ask_attr(u, entry, row) {
+                return false;
+            }
+        }
+        true
+    }
+}

@@ -1,0 +1,104 @@
+//! What an operation asks of the variables of its definition's body.
+
+ghost use Rattle.std.specs.Prelude.{◌≡◌, ◌<◌, ◌≤◌, length, IsTrue, false};
+ghost use Rattle.std.specs.Option.{ForSome};
+ghost use Rattle.attr_value.specs.Ids.{AreKnown};
+ghost use Rattle.dialect_defs.specs.Operations.{attr_at, given_sizes};
+ghost use Rattle.dialect_defs.specs.Operations.{operand_sizes_key, result_sizes_key};
+ghost use Rattle.ir_store.specs.Named.{op_at, AttrsAreRight};
+ghost use Rattle.ir_store.specs.Numbering.{ops_in};
+ghost use Rattle.ir_store.specs.Store.{head_of};
+ghost use Rattle.op_verifier.specs.Asked.{AreKnownSlots, Asks, Refuses};
+ghost use Rattle.op_verifier.specs.Parts.{HasSegments, HasParts};
+ghost use Rattle.op_verifier.specs.Seen.{HasIds, seen, values_at, attrs_seen};
+ghost use Rattle.op_verifier.specs.Sound.{EntriesAreBelow, NamesAreBelow};
+ghost use Rattle.op_verifier.specs.Types.{ids_of};
+
+use crate::attrs::sizes_given;
+use crate::operands::Types;
+use crate::wanted::Wanted;
+use attr_uniquer::Uniquer;
+use dialect_defs::{Entry, OpDef};
+use ir_store::{OpId, OpRow, Store};
+
+impl Wanted {
+    /// Asks the types of the operands of their entries' variables.
+    fn ask_operands(&mut self, u: &Uniquer, entries: &[Entry], row: &OpRow, types: &Types) -> bool
+        requires slots { AreKnownSlots (length u.now) self.old.slots.items }
+        requires vars { EntriesAreBelow (length self.old.slots.items) entries.now }
+        requires few { length entries.now ≤ 32 }
+        requires attrs { AttrsAreRight (head_of row.now) }
+        requires known { AreKnown (length u.now) row.now.values }
+        requires types { AreKnown (length u.now) (ids_of types.now) }
+        ensures asks { IsTrue result → Asks u.now self.old.slots.items self.new.slots.items
+            (λ a. HasSegments a entries.now (values_at u.now (ids_of types.now)) (given_sizes
+            (attr_at
+            (attrs_seen u.now row.now.keys row.now.values) operand_sizes_key))) }
+        ensures refuses { result ≡ false → Refuses u.now self.old.slots.items
+            (λ a. HasSegments a entries.now (values_at u.now (ids_of types.now)) (given_sizes
+            (attr_at
+            (attrs_seen u.now row.now.keys row.now.values) operand_sizes_key))) }
+    {
+        let given = sizes_given(u, row, b"operandSegmentSizes");
+        self.ask_segments(u, entries, types, given)
+    }
+
+    /// Asks the types of the results of their entries' variables.
+    fn ask_results(&mut self, u: &Uniquer, entries: &[Entry], row: &OpRow) -> bool
+        requires slots { AreKnownSlots (length u.now) self.old.slots.items }
+        requires vars { EntriesAreBelow (length self.old.slots.items) entries.now }
+        requires few { length entries.now ≤ 32 }
+        requires attrs { AttrsAreRight (head_of row.now) }
+        requires known { AreKnown (length u.now) row.now.values }
+        requires types { AreKnown (length u.now) row.now.results.items }
+        ensures asks { IsTrue result → Asks u.now self.old.slots.items self.new.slots.items
+            (λ a. HasSegments a entries.now (values_at u.now row.now.results.items)
+            (given_sizes (attr_at
+            (attrs_seen u.now row.now.keys row.now.values) result_sizes_key))) }
+        ensures refuses { result ≡ false → Refuses u.now self.old.slots.items
+            (λ a. HasSegments a entries.now (values_at u.now row.now.results.items)
+            (given_sizes (attr_at
+            (attrs_seen u.now row.now.keys row.now.values) result_sizes_key))) }
+    {
+        let given = sizes_given(u, row, b"resultSegmentSizes");
+        let types = Types::Listed(row.results.as_slice());
+        self.ask_segments(u, entries, &types, given)
+    }
+
+    /// Asks all that an operation's parts ask, where its operands have these types.
+    pub(crate) fn ask_parts(
+        &mut self,
+        u: &Uniquer,
+        def: &OpDef,
+        store: &Store,
+        op: OpId,
+        types: &Types,
+    ) -> bool
+        requires slots { AreKnownSlots (length u.now) self.old.slots.items }
+        requires names { NamesAreBelow (length self.old.slots.items) def.now }
+        requires ids { HasIds (length u.now) store.now }
+        requires types { AreKnown (length u.now) (ids_of types.now) }
+        requires op { op.0 < length (ops_in store.now) }
+        ensures asks { ForSome (op_at store.now op) (λ x. IsTrue result
+            → Asks u.now self.old.slots.items self.new.slots.items
+            (HasParts def.now (seen u.now (ids_of types.now) x))) }
+        ensures refuses { ForSome (op_at store.now op) (λ x. result ≡ false
+            → Refuses u.now self.old.slots.items
+            (HasParts def.now (seen u.now (ids_of types.now) x))) }
+    {
+        let row = store.op(op);
+        if row.successors.len() != def.successors.as_slice().len() {
+            return false;
+        }
+        if !self.ask_operands(u, def.operands.as_slice(), row, types) {
+            return false;
+        }
+        if !self.ask_results(u, def.results.as_slice(), row) {
+            return false;
+        }
+        if !self.ask_attrs(u, def.attrs.as_slice(), row) {
+            return false;
+        }
+        self.ask_regions(u, def.regions.as_slice(), store, op)
+    }
+}

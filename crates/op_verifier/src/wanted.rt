@@ -1,0 +1,52 @@
+//! The values that an operation asks of the variables of its definition's body.
+
+ghost use Rattle.std.specs.Prelude.{◌≡◌, ◌<◌, ◌≤◌, length, map, IsTrue, true, false, None};
+ghost use Rattle.std.specs.List.{AllByRecursion};
+ghost use Rattle.attr_value.specs.Ids.{at, AreKnown};
+ghost use Rattle.dialect_defs.specs.Assignments.{Has, HaveEach};
+ghost use Rattle.op_verifier.specs.Asked.{AreKnownSlots, Asks, Refuses};
+
+use arrayvec::ArrayVec;
+use attr_uniquer::Uniquer;
+use attr_value::ValueId;
+use dialect_defs::VarId;
+
+/// For each variable of a body the value that is asked of it, if one is.
+#[derive(Drop)]
+pub(crate) struct Wanted {
+    pub(crate) slots: ArrayVec<Option<ValueId>, 64>,
+}
+
+impl Wanted {
+    /// Nothing is asked of so many variables.
+    pub(crate) fn new(count: usize) -> Wanted
+        requires { count ≤ 64 }
+        ensures size { length result.slots.items ≡ count }
+        ensures none { AllByRecursion (λ slot. slot ≡ None) result.slots.items }
+    {
+        let mut slots = ArrayVec::new();
+        for _ in 0..count {
+            slots.push(None);
+        }
+        Wanted { slots }
+    }
+
+    /// Asks a value of a variable. Whether no other was asked of it before.
+    pub(crate) fn ask(&mut self, u: &Uniquer, var: VarId, id: ValueId) -> bool
+        requires known { AreKnownSlots (length u.now) self.old.slots.items }
+        requires var { var.0 < length self.old.slots.items }
+        requires id { id.0 < length u.now }
+        ensures asks { IsTrue result → Asks u.now self.old.slots.items self.new.slots.items
+            (λ a. Has a var (at u.now id.0)) }
+        ensures refuses { result ≡ false → Refuses u.now self.old.slots.items
+            (λ a. Has a var (at u.now id.0)) }
+    {
+        match self.slots[var.0] {
+            None => {
+                self.slots[var.0] = Some(id);
+                true
+            }
+            Some(other) => u.same(other, id),
+        }
+    }
+}
