@@ -28,7 +28,7 @@ fn intern_pairs(u: &mut Uniquer, count: u32) -> Result<(), AllocError> {
 }
 
 /// Three times so many calls of `intern`, and how many values are kept.
-pub fn intern_values(alloc: Global, count: u32) -> Result<usize, AllocError> {
+pub(crate) fn intern_values(alloc: Global, count: u32) -> Result<usize, AllocError> {
     let mut u = Uniquer::new(alloc);
     intern_numbers(&mut u, count)?;
     intern_numbers(&mut u, count)?;

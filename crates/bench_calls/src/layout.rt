@@ -35,7 +35,7 @@ fn count_tokens(src: &[u8]) -> usize
 }
 
 /// The tokens of so many operations.
-pub fn lex_operations(alloc: Global, count: u32) -> Result<usize, AllocError> {
+pub(crate) fn lex_operations(alloc: Global, count: u32) -> Result<usize, AllocError> {
     let text = operations(alloc, count)?;
     let src = text.as_slice();
     if src.len() > TEXT_LIMIT {
@@ -74,7 +74,7 @@ fn lay_out(alloc: Global, src: &[u8], sink: &mut MemSink) -> Result<(), PrintErr
 }
 
 /// The bytes of the layout of so many operations, read by the lexer first.
-pub fn lay_operations(alloc: Global, count: u32) -> Result<usize, AllocError> {
+pub(crate) fn lay_operations(alloc: Global, count: u32) -> Result<usize, AllocError> {
     let text = operations(alloc, count)?;
     let src = text.as_slice();
     let mut sink = MemSink::new(alloc, TEXT_LIMIT)?;

@@ -49,7 +49,7 @@ fn pick(alloc: Global) -> Result<Body, AllocError> {
 }
 
 /// So many searches over a body of six variables with three roots, of which the second choice fits.
-pub fn solve_pick(alloc: Global, count: u32) -> Result<usize, AllocError> {
+pub(crate) fn solve_pick(alloc: Global, count: u32) -> Result<usize, AllocError> {
     let mut u = Uniquer::new(alloc);
     let small = u.intern(Head::Int(IntKind::Signless(32)), &[])?;
     let large = u.intern(Head::Int(IntKind::Signless(64)), &[])?;
@@ -78,7 +78,7 @@ fn many_choices(alloc: Global, none: ValueId) -> Result<Body, AllocError> {
 }
 
 /// So many searches over all 65,536 choices, of which none fits.
-pub fn walk_choices(alloc: Global, count: u32) -> Result<usize, AllocError> {
+pub(crate) fn walk_choices(alloc: Global, count: u32) -> Result<usize, AllocError> {
     let mut u = Uniquer::new(alloc);
     let none = u.intern(Head::NoneType, &[])?;
     let index = u.intern(Head::Int(IntKind::Index), &[])?;

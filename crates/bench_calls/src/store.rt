@@ -69,7 +69,7 @@ fn module(alloc: Global, count: u32, kind: ValueId) -> Result<Store, AllocError>
 }
 
 /// How many operations were built and meet their definition, or 0 where one doesn't.
-pub fn verify_module(alloc: Global, count: u32) -> Result<usize, AllocError> {
+pub(crate) fn verify_module(alloc: Global, count: u32) -> Result<usize, AllocError> {
     let mut u = Uniquer::new(alloc);
     let kind = u.intern(Head::Int(IntKind::Signless(64)), &[])?;
     let mut defs = Vec::new(alloc);

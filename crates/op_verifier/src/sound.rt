@@ -110,7 +110,7 @@ pub fn are_sound_ops(defs: &[OpDef], len: usize, count: usize) -> bool
 }
 
 /// Whether each id is that of one of `len` values.
-pub(crate) fn are_known(len: usize, ids: &[ValueId]) -> bool
+fn are_known(len: usize, ids: &[ValueId]) -> bool
     ensures { IsTrue result ↔ AreKnown len ids.now }
 {
     for id in ids {

@@ -6,7 +6,6 @@ ghost use Rattle.ir_store.specs.Growth.{in_block, in_op, in_region, IsOpen};
 ghost use Rattle.ir_store.specs.Store.{head_of};
 
 use super::*;
-use crate::sound::are_known;
 use attr_uniquer::Uniquer;
 use attr_value::{Head, IntKind, List, Text, ValueId};
 use dialect_defs::{Arity, AttrEntry, Body, Constraint, Entry, OpDef, RegionEntry, VarId};
@@ -28,24 +27,6 @@ fn verified(
     assert!(rt; are_sound_ops(defs, u.len(), natives.len()));
     assert!(rt; can_judge(store, defs.len(), u.len()));
     verify(defs, natives, u, store)
-}
-
-/// What `meets` says, where these are such as it takes.
-fn met(
-    rt: &impl Abort,
-    defs: &[OpDef],
-    natives: &Natives,
-    u: &Uniquer,
-    store: &Store,
-    op: OpId,
-    operands: &[ValueId],
-) -> bool {
-    assert!(rt; are_sound_ops(defs, u.len(), natives.len()));
-    assert!(rt; can_judge(store, defs.len(), u.len()));
-    assert!(rt; op.0 < store.op_count());
-    assert!(rt; store.op(op).operands.len() == operands.len());
-    assert!(rt; are_known(u.len(), operands));
-    meets(defs, natives, u, store, op, operands)
 }
 
 /// A definition of two variables, of which all is allowed, without entries.
@@ -142,9 +123,6 @@ fn first_fault_is_named_with_its_place(rt: HostRuntime) -> Result<(), Fail> {
         place: 30,
     };
     assert_eq!(rt; verified(&rt, defs, &natives, &u, &store), Err(fault));
-    // with the types that are handed in for operands
-    assert!(rt; met(&rt, defs, &natives, &u, &store, OpId(1), &[i32]));
-    assert!(rt; !met(&rt, defs, &natives, &u, &store, OpId(1), &[i64]));
     Ok(())
 }
 
