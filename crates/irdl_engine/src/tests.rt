@@ -91,7 +91,8 @@ const LINES: &[(&[&str], &[u8], u64, u8, &str)] = &[
     (&[NAME, "check"], FILE, 0, 3, USAGE),
 ];
 
-// The write of a refusal's line that fails, and what was written before it.
+// The write of a refusal's line that fails, and what was written before it. The tenth is that of
+// the detail, which is empty.
 const FRONTS: &[(u64, &str)] = &[
     (1, ""),
     (2, "f.irdl"),
@@ -103,6 +104,7 @@ const FRONTS: &[(u64, &str)] = &[
     (8, "f.irdl:1:1: error 1"),
     (9, "f.irdl:1:1: error 1 "),
     (10, "f.irdl:1:1: error 1 Syntax"),
+    (11, "f.irdl:1:1: error 1 Syntax"),
 ];
 
 #[test]
@@ -127,7 +129,7 @@ fn each_line_is_written_whole_or_to_the_first_fault(rt: HostRuntime) -> Result<(
         gives(&rt, alloc, Case { write, ..refused }, 5, front)?;
     }
     let whole = Case {
-        write: 11,
+        write: 12,
         ..refused
     };
     gives(&rt, alloc, whole, 1, FIRST_BYTE)?;
