@@ -21,8 +21,8 @@ pub length-values : (rows : List Row) → length (values rows) ≡ length rows
 length-values rows = omega (arith, length-grow [] rows)
 
 -- as many rows as values
-pub as_many : (rows : List Row) (vs : List Value) → values rows ≡ vs → length rows ≡ length vs
-as_many rows vs same = sym (length-values rows) ∙ ap length same
+pub as-many : (rows : List Row) (vs : List Value) → values rows ≡ vs → length rows ≡ length vs
+as-many rows vs same = sym (length-values rows) ∙ ap length same
 
 -- a value is added, and earlier ones stay
 pub at-push : (vs : List Value) (v : Value) (i : ℕ) → i < length vs
@@ -38,18 +38,18 @@ at-grow vs (row ∷ rows) i within =
     ∙ at-push vs (value_of vs row) i within
 
 -- where earlier values stay, so do the kids that they are
-pub kids_at-same : (vs ws : List Value) (ids : List ValueId)
+pub kids-at-same : (vs ws : List Value) (ids : List ValueId)
     → ((i : ℕ) → i < length vs → at ws i ≡ at vs i) → AreKnown (length vs) ids
     → kids_at ws ids ≡ kids_at vs ids
-kids_at-same vs ws [] same known = refl
-kids_at-same vs ws (id ∷ ids) same known =
+kids-at-same vs ws [] same known = refl
+kids-at-same vs ws (id ∷ ids) same known =
     let first = same id.0 known.0 in
-    let rest = kids_at-same vs ws ids same known.1 in
+    let rest = kids-at-same vs ws ids same known.1 in
     cc
 
-kids_at-grow : (vs : List Value) (rows : List Row) (ids : List ValueId)
+kids-at-grow : (vs : List Value) (rows : List Row) (ids : List ValueId)
     → AreKnown (length vs) ids → kids_at (grow vs rows) ids ≡ kids_at vs ids
-kids_at-grow vs rows ids known = kids_at-same vs (grow vs rows) ids (at-grow vs rows) known
+kids-at-grow vs rows ids known = kids-at-same vs (grow vs rows) ids (at-grow vs rows) known
 
 pub known-more : (m n : ℕ) (ids : List ValueId) → m ≤ n → AreKnown m ids → AreKnown n ids
 known-more m n [] more known = tt
@@ -69,10 +69,10 @@ sound-push vs (first ∷ rows) row sound known deep =
     (sound.0, sound.1, sound-push (vs ++ value_of vs first ∷ []) rows row sound.2 known deep)
 
 -- the row at a place, behind the values vs
-pub row_at-grow : (vs : List Value) (rows : List Row) (i n : ℕ) (d : Row) → AreSound vs rows
+pub row-at-grow : (vs : List Value) (rows : List Row) (i n : ℕ) (d : Row) → AreSound vs rows
     → i < length rows → n ≡ length vs + i → IsRowAt (grow vs rows) n (get_or rows i d)
-row_at-grow vs [] i n d sound within place = absurd (omega arith)
-row_at-grow vs (row ∷ rows) zero n d sound within place =
+row-at-grow vs [] i n d sound within place = absurd (omega arith)
+row-at-grow vs (row ∷ rows) zero n d sound within place =
     let v = value_of vs row in
     let ws = vs ++ v ∷ [] in
     let longer = length-append vs (v ∷ []) in
@@ -81,13 +81,13 @@ row_at-grow vs (row ∷ rows) zero n d sound within place =
     let stays : at (grow ws rows) (length vs) ≡ v =
     at-grow ws rows (length vs) (omega (arith, longer)) ∙ seam in
     let kids : kids_at (grow vs (row ∷ rows)) row.kids ≡ kids_at vs row.kids =
-    kids_at-grow vs (row ∷ rows) row.kids sound.0 in
+    kids-at-grow vs (row ∷ rows) row.kids sound.0 in
     record {
       known = subst (λ m. AreKnown m row.kids) (sym here) sound.0;
       deep = sound.1 ∙ ap depth (sym stays ∙ ap (at (grow ws rows)) (sym here));
       stands = ap (at (grow ws rows)) here ∙ stays ∙ ap (value row.head) (sym kids);
     }
-row_at-grow vs (row ∷ rows) (suc i) n d sound within place =
+row-at-grow vs (row ∷ rows) (suc i) n d sound within place =
     let longer = length-append vs (value_of vs row ∷ []) in
-    row_at-grow (vs ++ value_of vs row ∷ []) rows i n d sound.2 (omega arith)
+    row-at-grow (vs ++ value_of vs row ∷ []) rows i n d sound.2 (omega arith)
     (omega (arith, longer))

@@ -13,9 +13,9 @@ use Rattle.attr_uniquer.specs.contracts.row.RowPartialEq.TheImpl as row
 use Rattle.attr_uniquer.specs.declared.row.Row.{Row}
 use Rattle.attr_uniquer.specs.Interned.{Interned}
 use Rattle.attr_uniquer.specs.Rows.{value_of, values, AreSound}
-use Rattle.attr_uniquer.proofs.Grown.{length-values, at-push, kids_at-same, grow-push}
-use Rattle.attr_uniquer.proofs.Grown.{sound-push, row_at-grow}
-use Rattle.attr_uniquer.proofs.Once.{same_row}
+use Rattle.attr_uniquer.proofs.Grown.{length-values, at-push, kids-at-same, grow-push}
+use Rattle.attr_uniquer.proofs.Grown.{sound-push, row-at-grow}
+use Rattle.attr_uniquer.proofs.Once.{same-row}
 
 -- the values of the new rows are the old ones, or those and the row's
 abbrev Keeps : List Row → List Row → Row → Type 0
@@ -28,27 +28,27 @@ pub record Inserts (old new : List Row) (r : Row) (i : ℕ) : Type 0 where
   pub sound : AreSound [] new
 
 -- the row's kids are what they were
-kept_kids : (old new : List Row) (r : Row) → Keeps old new r
+kept-kids : (old new : List Row) (r : Row) → Keeps old new r
     → AreKnown (length (values old)) r.kids
     → kids_at (values new) r.kids ≡ kids_at (values old) r.kids
-kept_kids old new r (inl same) known = ap (λ vs. kids_at vs r.kids) same
-kept_kids old new r (inr longer) known =
+kept-kids old new r (inl same) known = ap (λ vs. kids_at vs r.kids) same
+kept-kids old new r (inr longer) known =
     let v = value_of (values old) r in
     ap (λ vs. kids_at vs r.kids) longer
-    ∙ kids_at-same (values old) (values old ++ v ∷ []) r.kids (at-push (values old) v) known
+    ∙ kids-at-same (values old) (values old ++ v ∷ []) r.kids (at-push (values old) v) known
 
-inserts_at : (old new : List Row) (r : Row) (i : ℕ) → AreSound [] new
+inserts-at : (old new : List Row) (r : Row) (i : ℕ) → AreSound [] new
     → AreKnown (length old) r.kids → Keeps old new r → slice_get new i ≡ Some r
     → Inserts old new r i
-inserts_at old new r i sound known kept there =
+inserts-at old new r i sound known kept there =
     let within : i < length new = slice_get_within new i r there in
     let here : get_or new i r ≡ r = get_or_from_slice_get new i r r there in
-    let row = row_at-grow [] new i i r sound within (omega arith) in
+    let row = row-at-grow [] new i i r sound within (omega arith) in
     let stands : at (values new) i ≡ value_of (values new) r =
     subst (λ q. at (values new) i ≡ value_of (values new) q) here row.stands in
     let was_known : AreKnown (length (values old)) r.kids =
     subst (λ n. AreKnown n r.kids) (sym (length-values old)) known in
-    let kids = kept_kids old new r kept was_known in
+    let kids = kept-kids old new r kept was_known in
     let found : slice_get (values new) i ≡ Some (at (values new) i) =
     slice_get-get_or (values new) i (value h.Unit none)
     (omega (arith, length-values new)) in
@@ -68,13 +68,13 @@ pub inserts : (old new : List Row) (r : Row) (i : ℕ) → AreSound [] old
 inserts old new r i sound known deep keys stored = by (list_any (row.ghosts.eq r) old) refl
   where
     there : slice_get new i ≡ Some r
-    there = stored.1 ∙ ap Some (sym (same_row r stored.0 stored.2))
+    there = stored.1 ∙ ap Some (sym (same-row r stored.0 stored.2))
 
     by : (found : Bool) → list_any (row.ghosts.eq r) old ≡ found → Inserts old new r i
     by true is =
         let stays : new ≡ old = keys ∙ ap (λ b. if b then old else old ++ r ∷ []) is in
         let new_sound : AreSound [] new = subst (AreSound []) (sym stays) sound in
-        inserts_at old new r i new_sound known (inl (ap values stays)) there
+        inserts-at old new r i new_sound known (inl (ap values stays)) there
     by false is =
         let grows : new ≡ old ++ r ∷ [] =
         keys ∙ ap (λ b. if b then old else old ++ r ∷ []) is in
@@ -84,12 +84,12 @@ inserts old new r i sound known deep keys stored = by (list_any (row.ghosts.eq r
         subst (λ n. AreKnown n r.kids) (sym (length-values old)) known in
         let new_sound : AreSound [] new =
         subst (AreSound []) (sym grows) (sound-push [] old r sound was_known deep) in
-        inserts_at old new r i new_sound known (inr longer) there
+        inserts-at old new r i new_sound known (inr longer) there
 
 -- what is kept has an id, and nothing was lost
-pub interned_within : (old new : List Value) (v : Value) (i : ℕ) → Interned old new v i
+pub interned-within : (old new : List Value) (v : Value) (i : ℕ) → Interned old new v i
     → (i < length new) × (length old ≤ length new)
-interned_within old new v i interned =
+interned-within old new v i interned =
     (slice_get_within new i v interned.stands, by interned.kept)
   where
     by : ((new ≡ old) ⊎ (new ≡ old ++ v ∷ [])) → length old ≤ length new

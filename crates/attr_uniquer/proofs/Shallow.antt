@@ -14,12 +14,12 @@ use Rattle.attr_uniquer.proofs.Grown.{at-push}
 abbrev AreShallow : List Value → Type 0
 AreShallow vs = (i : ℕ) → i < length vs → depth (at vs i) ≤ i + 1
 
-shallow_kids : (vs : List Value) (ids : List ValueId) (n : ℕ) → AreShallow vs → n ≤ length vs
+shallow-kids : (vs : List Value) (ids : List ValueId) (n : ℕ) → AreShallow vs → n ≤ length vs
     → AreKnown n ids → greatest_depth (kids_at vs ids) ≤ n
-shallow_kids vs [] n shallow within known = omega arith
-shallow_kids vs (id ∷ ids) n shallow within known =
+shallow-kids vs [] n shallow within known = omega arith
+shallow-kids vs (id ∷ ids) n shallow within known =
     let first = shallow id.0 (omega (arith, known.0)) in
-    omega (arith, first, shallow_kids vs ids n shallow within known.1, known.0)
+    omega (arith, first, shallow-kids vs ids n shallow within known.1, known.0)
 
 shallow-push : (vs : List Value) (v : Value) → AreShallow vs → depth v ≤ length vs + 1
     → AreShallow (vs ++ v ∷ [])
@@ -37,24 +37,24 @@ shallow-grow : (vs : List Value) (rows : List Row) → AreSound vs rows → AreS
     → AreShallow (grow vs rows)
 shallow-grow vs [] sound shallow = shallow
 shallow-grow vs (row ∷ rows) sound shallow =
-    let kids = shallow_kids vs row.kids (length vs) shallow (omega arith) sound.0 in
+    let kids = shallow-kids vs row.kids (length vs) shallow (omega arith) sound.0 in
     let more = shallow-push vs (value_of vs row) shallow (omega (arith, kids)) in
     shallow-grow (vs ++ value_of vs row ∷ []) rows sound.2 more
 
-pub shallow_rows : (rows : List Row) → AreSound [] rows → AreShallow (values rows)
-shallow_rows rows sound = shallow-grow [] rows sound (λ i within. absurd (omega arith))
+pub shallow-rows : (rows : List Row) → AreSound [] rows → AreShallow (values rows)
+shallow-rows rows sound = shallow-grow [] rows sound (λ i within. absurd (omega arith))
 
 -- the id at a place, and those behind it
-next_id : (ids : List ValueId) (i : ℕ) (d : ValueId) → i < length ids
+next-id : (ids : List ValueId) (i : ℕ) (d : ValueId) → i < length ids
     → drop i ids ≡ get_or ids i d ∷ drop (i + 1) ids
-next_id ids i d within = rw add-one (drop-cons ids i d within)
+next-id ids i d within = rw add-one (drop-cons ids i d within)
 
-pub next_known : (n : ℕ) (ids : List ValueId) (i : ℕ) (d : ValueId) → i < length ids
+pub next-known : (n : ℕ) (ids : List ValueId) (i : ℕ) (d : ValueId) → i < length ids
     → AreKnown n (drop i ids) → ((get_or ids i d).0 < n) × AreKnown n (drop (i + 1) ids)
-next_known n ids i d within known = subst (AreKnown n) (next_id ids i d within) known
+next-known n ids i d within known = subst (AreKnown n) (next-id ids i d within) known
 
-pub next_depth : (vs : List Value) (ids : List ValueId) (i : ℕ) (d : ValueId) → i < length ids
+pub next-depth : (vs : List Value) (ids : List ValueId) (i : ℕ) (d : ValueId) → i < length ids
     → greatest_depth (kids_at vs (drop i ids))
     ≡ max (depth (at vs (get_or ids i d).0)) (greatest_depth (kids_at vs (drop (i + 1) ids)))
-next_depth vs ids i d within =
-    ap (λ l. greatest_depth (kids_at vs l)) (next_id ids i d within)
+next-depth vs ids i d within =
+    ap (λ l. greatest_depth (kids_at vs l)) (next-id ids i d within)

@@ -19,55 +19,55 @@ use Rattle.attr_value.specs.contracts.kind.ShapeKindPartialEq.TheImpl as shape_k
 abbrev pub TellsApart : {A : Type 0} → (A → A → Bool) → Type 0
 TellsApart {A} eq = (x y : A) → eq x y ≡ true → x ≡ y
 
-pub both_true : (a b : Bool) → (a && b) ≡ true → (a ≡ true) × (b ≡ true)
-both_true true b same = (refl, same)
-both_true false b same = absurd (true≢false (sym same))
+pub both-true : (a b : Bool) → (a && b) ≡ true → (a ≡ true) × (b ≡ true)
+both-true true b same = (refl, same)
+both-true false b same = absurd (true≢false (sym same))
 
-pub same_list : {A : Type 0} (eq : A → A → Bool) → TellsApart eq → TellsApart (pointwise eq)
-same_list eq apart [] [] same = refl
-same_list eq apart [] (y ∷ ys) same = cc
-same_list eq apart (x ∷ xs) [] same = cc
-same_list eq apart (x ∷ xs) (y ∷ ys) same =
-    let both = both_true (eq x y) (pointwise eq xs ys) same in
+pub same-list : {A : Type 0} (eq : A → A → Bool) → TellsApart eq → TellsApart (pointwise eq)
+same-list eq apart [] [] same = refl
+same-list eq apart [] (y ∷ ys) same = cc
+same-list eq apart (x ∷ xs) [] same = cc
+same-list eq apart (x ∷ xs) (y ∷ ys) same =
+    let both = both-true (eq x y) (pointwise eq xs ys) same in
     let first : x ≡ y = apart x y both.0 in
-    let rest : xs ≡ ys = same_list eq apart xs ys both.1 in
+    let rest : xs ≡ ys = same-list eq apart xs ys both.1 in
     cc
 
-pub same_text : TellsApart (pointwise nat_eq)
-same_text = same_list nat_eq exact_unsigned_eq
+pub same-text : TellsApart (pointwise nat_eq)
+same-text = same-list nat_eq exact_unsigned_eq
 
-pub same_int : (a b : ℤ) → int_eq a b ≡ true → a ≡ b
-same_int a b same = search rules
+pub same-int : (a b : ℤ) → int_eq a b ≡ true → a ≡ b
+same-int a b same = search rules
 
-pub same_bool : (a b : Bool) → beq a b ≡ true → a ≡ b
-same_bool true true same = refl
-same_bool false false same = refl
-same_bool _ _ same = cc
+pub same-bool : (a b : Bool) → beq a b ≡ true → a ≡ b
+same-bool true true same = refl
+same-bool false false same = refl
+same-bool _ _ same = cc
 
-pub same_dim : TellsApart dim.ghosts.eq
-same_dim (Known a) (Known b) same = ap Known (exact_unsigned_eq a b same)
-same_dim Unknown Unknown same = refl
-same_dim _ _ same = cc
+pub same-dim : TellsApart dim.ghosts.eq
+same-dim (Known a) (Known b) same = ap Known (exact_unsigned_eq a b same)
+same-dim Unknown Unknown same = refl
+same-dim _ _ same = cc
 
-pub same_int_kind : TellsApart int_kind.ghosts.eq
-same_int_kind Index Index same = refl
-same_int_kind (Signless a) (Signless b) same = ap Signless (exact_unsigned_eq a b same)
-same_int_kind (Signed a) (Signed b) same = ap Signed (exact_unsigned_eq a b same)
-same_int_kind (Unsigned a) (Unsigned b) same = ap Unsigned (exact_unsigned_eq a b same)
-same_int_kind _ _ same = cc
+pub same-int-kind : TellsApart int_kind.ghosts.eq
+same-int-kind Index Index same = refl
+same-int-kind (Signless a) (Signless b) same = ap Signless (exact_unsigned_eq a b same)
+same-int-kind (Signed a) (Signed b) same = ap Signed (exact_unsigned_eq a b same)
+same-int-kind (Unsigned a) (Unsigned b) same = ap Unsigned (exact_unsigned_eq a b same)
+same-int-kind _ _ same = cc
 
-pub same_float_kind : TellsApart float_kind.ghosts.eq
-same_float_kind f.Bf16 f.Bf16 same = refl
-same_float_kind f.F16 f.F16 same = refl
-same_float_kind f.Tf32 f.Tf32 same = refl
-same_float_kind f.F32 f.F32 same = refl
-same_float_kind f.F64 f.F64 same = refl
-same_float_kind f.F80 f.F80 same = refl
-same_float_kind f.F128 f.F128 same = refl
-same_float_kind _ _ same = cc
+pub same-float-kind : TellsApart float_kind.ghosts.eq
+same-float-kind f.Bf16 f.Bf16 same = refl
+same-float-kind f.F16 f.F16 same = refl
+same-float-kind f.Tf32 f.Tf32 same = refl
+same-float-kind f.F32 f.F32 same = refl
+same-float-kind f.F64 f.F64 same = refl
+same-float-kind f.F80 f.F80 same = refl
+same-float-kind f.F128 f.F128 same = refl
+same-float-kind _ _ same = cc
 
-pub same_shape_kind : TellsApart shape_kind.ghosts.eq
-same_shape_kind Vector Vector same = refl
-same_shape_kind Tensor Tensor same = refl
-same_shape_kind Memref Memref same = refl
-same_shape_kind _ _ same = cc
+pub same-shape-kind : TellsApart shape_kind.ghosts.eq
+same-shape-kind Vector Vector same = refl
+same-shape-kind Tensor Tensor same = refl
+same-shape-kind Memref Memref same = refl
+same-shape-kind _ _ same = cc

@@ -1,6 +1,6 @@
 -- The kinds of heads that definitions name.
 --
---   name_of base       the kind's name in definition files
+--   base_name base       the kind's name in definition files
 --   first_named bases s   the first of some kinds that has the name s
 --   base_of head       the kind of a head, where it has one
 --   IsOfBase head b    the head is of the kind b
@@ -29,28 +29,28 @@ float_word f.F80 = codes "f80"
 float_word f.F128 = codes "f128"
 
 -- types are named with `!`, attributes with `#`
-abbrev pub name_of : BaseKind → List ℕ
-name_of b.Integer = codes "!builtin.integer"
-name_of b.Index = codes "!builtin.index"
-name_of b.NoneType = codes "!builtin.none"
-name_of (b.Float kind) = codes "!builtin." ++ float_word kind
-name_of b.Function = codes "!builtin.function"
-name_of b.Tuple = codes "!builtin.tuple"
-name_of b.Vector = codes "!builtin.vector"
-name_of b.Tensor = codes "!builtin.tensor"
-name_of b.Memref = codes "!builtin.memref"
-name_of b.Complex = codes "!builtin.complex"
-name_of b.IntegerAttr = codes "#builtin.integer"
-name_of b.StrAttr = codes "#builtin.string"
-name_of b.UnitAttr = codes "#builtin.unit"
-name_of b.ArrayAttr = codes "#builtin.array"
-name_of b.DictAttr = codes "#builtin.dictionary"
-name_of b.SymbolAttr = codes "#builtin.symbol_ref"
-name_of b.DenseAttr = codes "#builtin.dense_array"
+abbrev pub base_name : BaseKind → List ℕ
+base_name b.Integer = codes "!builtin.integer"
+base_name b.Index = codes "!builtin.index"
+base_name b.NoneType = codes "!builtin.none"
+base_name (b.Float kind) = codes "!builtin." ++ float_word kind
+base_name b.Function = codes "!builtin.function"
+base_name b.Tuple = codes "!builtin.tuple"
+base_name b.Vector = codes "!builtin.vector"
+base_name b.Tensor = codes "!builtin.tensor"
+base_name b.Memref = codes "!builtin.memref"
+base_name b.Complex = codes "!builtin.complex"
+base_name b.IntegerAttr = codes "#builtin.integer"
+base_name b.StrAttr = codes "#builtin.string"
+base_name b.UnitAttr = codes "#builtin.unit"
+base_name b.ArrayAttr = codes "#builtin.array"
+base_name b.DictAttr = codes "#builtin.dictionary"
+base_name b.SymbolAttr = codes "#builtin.symbol_ref"
+base_name b.DenseAttr = codes "#builtin.dense_array"
 
 -- the first of some kinds that has this name
 abbrev pub first_named : List BaseKind → List ℕ → Option BaseKind
-first_named bases s = find (λ base. bytes_eq (name_of base) s) bases
+first_named bases s = find (λ base. bytes_eq (base_name base) s) bases
 
 -- the kind of an integer type
 abbrev pub base_of_int : IntKind → BaseKind

@@ -12,42 +12,42 @@ use Rattle.attr_value.specs.contracts.head.Head.{the_row}
 use Rattle.attr_value.specs.Values.{Value, Values, none, more, value}
 
 -- each head with the number of heads among its kids, the kids before the values behind it
-abbrev pub written : Values → List (Head × ℕ)
-written none = []
-written (more head kids rest) =
-    (head, length (written kids)) ∷ (written kids ++ written rest)
+abbrev pub encoded : Values → List (Head × ℕ)
+encoded none = []
+encoded (more head kids rest) =
+    (head, length (encoded kids)) ∷ (encoded kids ++ encoded rest)
 
 -- the values that are written so, in so many steps at most
-abbrev pub read_by : ℕ → List (Head × ℕ) → Values
-read_by zero heads = none
-read_by (suc steps) [] = none
-read_by (suc steps) (first ∷ heads) =
-    more first.0 (read_by steps (take first.1 heads)) (read_by steps (drop first.1 heads))
+abbrev pub decoded_in : ℕ → List (Head × ℕ) → Values
+decoded_in zero heads = none
+decoded_in (suc steps) [] = none
+decoded_in (suc steps) (first ∷ heads) =
+    more first.0 (decoded_in steps (take first.1 heads)) (decoded_in steps (drop first.1 heads))
 
-pub read-written : (steps : ℕ) (vs : Values) → length (written vs) ≤ steps
-    → read_by steps (written vs) ≡ vs
-read-written zero none within = refl
-read-written (suc steps) none within = refl
-read-written zero (more head kids rest) within = absurd (omega arith)
-read-written (suc steps) (more head kids rest) within =
-    let lengths = length-append (written kids) (written rest) in
-    let first : read_by steps (written kids) ≡ kids =
-    read-written steps kids (omega (arith, lengths)) in
-    let second : read_by steps (written rest) ≡ rest =
-    read-written steps rest (omega (arith, lengths)) in
-    let front = take-append_seam (written kids) (written rest) in
-    let back = drop-append_seam (written kids) (written rest) in
+pub decoded_in-encoded : (steps : ℕ) (vs : Values) → length (encoded vs) ≤ steps
+    → decoded_in steps (encoded vs) ≡ vs
+decoded_in-encoded zero none within = refl
+decoded_in-encoded (suc steps) none within = refl
+decoded_in-encoded zero (more head kids rest) within = absurd (omega arith)
+decoded_in-encoded (suc steps) (more head kids rest) within =
+    let lengths = length-append (encoded kids) (encoded rest) in
+    let first : decoded_in steps (encoded kids) ≡ kids =
+    decoded_in-encoded steps kids (omega (arith, lengths)) in
+    let second : decoded_in steps (encoded rest) ≡ rest =
+    decoded_in-encoded steps rest (omega (arith, lengths)) in
+    let front = take-append_seam (encoded kids) (encoded rest) in
+    let back = drop-append_seam (encoded kids) (encoded rest) in
     cc
 
 -- the value that is written so
-abbrev pub read : List (Head × ℕ) → Value
-read [] = value h.Unit none
-read (first ∷ heads) = value first.0 (read_by (length heads) heads)
+abbrev pub decoded : List (Head × ℕ) → Value
+decoded [] = value h.Unit none
+decoded (first ∷ heads) = value first.0 (decoded_in (length heads) heads)
 
-pub read-value : (v : Value) → read ((v.head, 0) ∷ written v.kids) ≡ v
-read-value v = ap (value v.head) (read-written _ v.kids (omega arith))
+pub decoded-encoded : (v : Value) → decoded ((v.head, 0) ∷ encoded v.kids) ≡ v
+decoded-encoded v = ap (value v.head) (decoded_in-encoded _ v.kids (omega arith))
 
 -- a value as its head and those below it
 abbrev pub value_code : Coded Value
 value_code = code_by (List (Head × ℕ)) (coded_list (coded× the_row.coded coded_ℕ))
-    (λ v. (v.head, 0) ∷ written v.kids) read read-value
+    (λ v. (v.head, 0) ∷ encoded v.kids) decoded decoded-encoded

@@ -2,7 +2,7 @@
 
 ghost use Rattle.std.specs.Prelude.{◌≡◌, ◌↔◌, Some, IsTrue, IfSome};
 ghost use Rattle.attr_value.specs.Bases as spec;
-ghost use Rattle.attr_value.specs.Bases.{name_of};
+ghost use Rattle.attr_value.specs.Bases.{base_name};
 
 use crate::head::Head;
 use crate::kind::{FloatKind, IntKind, ShapeKind};
@@ -75,7 +75,7 @@ const BASES: [BaseKind; 23] = [
 
 /// The name of a kind in definition files.
 fn name(base: BaseKind) -> &'static [u8]
-    ensures { result.now ≡ name_of base }
+    ensures { result.now ≡ base_name base }
 {
     match base {
         BaseKind::Integer => b"!builtin.integer",
@@ -113,8 +113,8 @@ fn first_named(bases: &[BaseKind], s: &[u8]) -> Option<BaseKind>
 
 /// The kind of this name. `None` exactly where no kind has it. It takes no memory.
 pub fn base_named(s: &[u8]) -> Option<BaseKind>
-    ensures some { IfSome result (λ base. name_of base ≡ s.now) }
-    ensures only { (base : BaseKind) → name_of base ≡ s.now → result ≡ Some base }
+    ensures some { IfSome result (λ base. base_name base ≡ s.now) }
+    ensures only { (base : BaseKind) → base_name base ≡ s.now → result ≡ Some base }
 {
     first_named(&BASES, s)
 }

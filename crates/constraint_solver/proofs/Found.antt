@@ -14,7 +14,7 @@ use Rattle.attr_value.specs.Ids.{at}
 use Rattle.attr_value.specs.Values.{Value}
 use Rattle.dialect_defs.specs.declared.body.Body.{Body}
 use Rattle.dialect_defs.specs.declared.body.VarId.{VarId}
-use Rattle.dialect_defs.specs.Assignments.{Tests, Assignment, Has, Meets}
+use Rattle.dialect_defs.specs.Assignments.{Tests, Assignment, Has, MeetsBody}
 use Rattle.constraint_solver.specs.Roots.{assigned, AreKnownIds, HasRoots}
 use Rattle.constraint_solver.specs.Search.{Within, Forced, Refuted, MeetsBelow, Solved}
 use Rattle.constraint_solver.proofs.Given.{has-slot, slot-has, SlotOf}
@@ -36,7 +36,7 @@ module _ (values : List Value) (tests : Tests) (body : Body) (n : ℕ) (empty : 
 
   module _ (mid : Assignment) (f : Forced n (assigned values empty) mid P) where
     pub found-none : Refuted mid (MeetsBelow n values tests body) → (a : Assignment)
-        → Meets values tests body a → P a → ⊥
+        → MeetsBody values tests body a → P a → ⊥
     found-none r a met p = r a (f.least a (λ v x has. absurd (bare v x has)) p)
         (λ v c x below is has. met.each v c x is has)
 
@@ -68,7 +68,7 @@ module _ (values : List Value) (tests : Tests) (body : Body) (n : ℕ) (empty : 
               let is : slice_index_or (take n ids) v.0 None ≡ Some slot.id = slot.stands in
               absurd cc
 
-      pub found-meets : Meets values tests body (assigned values (take n ids))
+      pub found-meets : MeetsBody values tests body (assigned values (take n ids))
       found-meets = record {
         size = length-map (take n ids) (option_map (λ id. at values id.0)) ∙ firsts-is ∙ same;
         each = λ v c x is has.

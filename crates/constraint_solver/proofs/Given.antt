@@ -18,16 +18,16 @@ use Rattle.constraint_solver.specs.Roots.{assigned}
 use Rattle.constraint_solver.specs.Search.{Within, Forced, Refuted}
 
 -- a variable has one value
-pub has_one : (a : Assignment) (v : VarId) (x y : Value) → Has a v x → Has a v y → x ≡ y
-has_one a v x y first second = let same : Some (Some x) ≡ Some (Some y) = sym first ∙ second in cc
+pub has-one : (a : Assignment) (v : VarId) (x y : Value) → Has a v x → Has a v y → x ≡ y
+has-one a v x y first second = let same : Some (Some x) ≡ Some (Some y) = sym first ∙ second in cc
 
 -- variables of one number have the same value
 pub has-same : (a : Assignment) (v w : VarId) (x : Value) → v.0 ≡ w.0 → Has a v x → Has a w x
 has-same a v w x same has = subst (λ k. slice_get a k ≡ Some (Some x)) same has
 
-slot_is : (ids : List (Option ValueId)) (v : ℕ) (id : ValueId)
+slot-is : (ids : List (Option ValueId)) (v : ℕ) (id : ValueId)
     → slice_index_or ids v None ≡ Some id → slice_get ids v ≡ Some (Some id)
-slot_is ids v id is = by (slice_get ids v) refl
+slot-is ids v id is = by (slice_get ids v) refl
   where
     read : unwrap_or (slice_get ids v) None ≡ Some id
     read = unwrap_or-slice_get ids v None ∙ is
@@ -43,7 +43,7 @@ module _ (values : List Value) where
   pub has-slot : (ids : List (Option ValueId)) (v : VarId) (id : ValueId)
       → slice_index_or ids v.0 None ≡ Some id → Has (assigned values ids) v (at values id.0)
   has-slot ids v id is = slice_get-map (option_map (λ i. at values i.0)) ids v.0
-      ∙ ap (option_map (option_map (λ i. at values i.0))) (slot_is ids v.0 id is)
+      ∙ ap (option_map (option_map (λ i. at values i.0))) (slot-is ids v.0 id is)
 
   -- the id of a value that a variable has
   pub record SlotOf (ids : List (Option ValueId)) (v : ℕ) (x : Value) : Type 0 where
@@ -143,9 +143,9 @@ module _ (values : List Value) where
       → slice_index_or ids v.0 None ≡ Some old → (at values old.0 ≡ at values id.0 → ⊥)
       → Refuted (assigned values ids) (λ a. Has a v (at values id.0))
   refuted ids v old id is differ a under has =
-      differ (has_one a v _ _ (under v _ (has-slot ids v old is)) has)
+      differ (has-one a v _ _ (under v _ (has-slot ids v old is)) has)
 
-pub get_or-replicate : {A : Type 0} (n : ℕ) (d : A) (v : ℕ) → get_or (replicate n d) v d ≡ d
-get_or-replicate zero d v = refl
-get_or-replicate (suc n) d zero = refl
-get_or-replicate (suc n) d (suc v) = get_or-replicate n d v
+pub get-or-replicate : {A : Type 0} (n : ℕ) (d : A) (v : ℕ) → get_or (replicate n d) v d ≡ d
+get-or-replicate zero d v = refl
+get-or-replicate (suc n) d zero = refl
+get-or-replicate (suc n) d (suc v) = get-or-replicate n d v

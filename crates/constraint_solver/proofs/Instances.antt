@@ -7,7 +7,7 @@ use Rattle.dialect_defs.specs.declared.definition.TypeDef.{TypeDef}
 use Rattle.dialect_defs.specs.Assignments.{Tests}
 use Rattle.dialect_defs.specs.Goodness.{IsInstance}
 use Rattle.constraint_solver.specs.Definitions.{IsInstanceOf}
-use Rattle.constraint_solver.proofs.Settled.{same_default}
+use Rattle.constraint_solver.proofs.Settled.{same-default}
 
 module _ (values : List Value) (tests : Tests) (is_type : Bool) (name : List ℕ)
     (kids : List Value) where
@@ -35,7 +35,7 @@ module _ (values : List Value) (tests : Tests) (is_type : Bool) (name : List ℕ
       by k e within serves (inl before) upto = n.tried k e before within serves
       by k e within serves (inr from) upto =
           let here : k ≡ i = omega (arith, from, upto) in
-          let one : get_or types k e ≡ d = same_default types k e d within
+          let one : get_or types k e ≡ d = same-default types k e d within
           ∙ ap (λ j. get_or types j d) here ∙ sym is in
           never (subst Serves one serves)
 

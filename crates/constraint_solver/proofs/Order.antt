@@ -9,9 +9,9 @@ use Rattle.std.specs.declared.option.Option.TheVariants.{Some}
 use Rattle.attr_value.specs.Heads.{text_lt, Ascend}
 
 -- `<` of slices of bytes
-pub is_text_lt : (a b : List ℕ) (r : Bool)
+pub is-text-lt : (a b : List ℕ) (r : Bool)
     → r ≡ is_some_and is_lt (slice_partial_cmp (λ x y. Some (nat_cmp x y)) a b) → r ≡ text_lt a b
-is_text_lt = same_from_slice_cmp_tested nat_cmp is_lt text_lt refl (λ y ys. refl) (λ x xs. refl)
+is-text-lt = same_from_slice_cmp_tested nat_cmp is_lt text_lt refl (λ y ys. refl) (λ x xs. refl)
     (λ x y xs ys o is. grind (arith, nat_tests))
 
 -- one text or none ascends

@@ -9,7 +9,7 @@ use Rattle.dialect_defs.specs.declared.body.Constraint.TheVariants.{Parametric}
 use Rattle.dialect_defs.specs.declared.body.VarId.{VarId}
 use Rattle.dialect_defs.specs.Assignments.{Tests, Assignment, HaveEach, Keeps}
 use Rattle.constraint_solver.specs.Search.{Forced, Refuted}
-use Rattle.constraint_solver.proofs.Filled.{length-kids_at, have-lengths}
+use Rattle.constraint_solver.proofs.Filled.{length-kids-at, have-lengths}
 
 -- another property that the same assignments have
 forced-map : (n : ℕ) (old new : Assignment) (P Q : Assignment → Type 0)
@@ -54,4 +54,4 @@ module _ (values : List Value) (tests : Tests) (is_type : Bool) (name : List ℕ
   pub count-refuted : (old : Assignment) → (length parts ≡ length ids → ⊥) → Refuted old Kept
   count-refuted old other a under kept =
       other (have-lengths a parts (list_of (kids_at values ids)) (back a kept)
-      ∙ length-kids_at values ids)
+      ∙ length-kids-at values ids)

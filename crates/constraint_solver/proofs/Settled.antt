@@ -15,14 +15,14 @@ use Rattle.dialect_defs.specs.declared.body.VarId.{VarId}
 use Rattle.dialect_defs.specs.Assignments.{Tests, Assignment, Has, HaveEach, Keeps}
 use Rattle.constraint_solver.specs.Search.{Within, SameFrom, Forced, Refuted, MeetsBelow, Solved}
 use Rattle.constraint_solver.specs.Search.{IsDirect}
-use Rattle.constraint_solver.proofs.Given.{has_one, has-same}
+use Rattle.constraint_solver.proofs.Given.{has-one, has-same}
 use Rattle.constraint_solver.proofs.Filled.{var_at}
 use Rattle.constraint_solver.proofs.Tried.{MemberRefuted}
 
 -- an item of a list doesn't depend on what stands for those that aren't there
-pub same_default : {X : Type 0} (xs : List X) (k : ℕ) (d e : X) → k < length xs
+pub same-default : {X : Type 0} (xs : List X) (k : ℕ) (d e : X) → k < length xs
     → get_or xs k d ≡ get_or xs k e
-same_default xs k d e within = same_Some (get_or xs k d) (get_or xs k e)
+same-default xs k d e within = same_Some (get_or xs k d) (get_or xs k e)
     (sym (slice_get-get_or xs k d within) ∙ slice_get-get_or xs k e within)
 
 -- a constraint that is kept stays kept as the assignment grows
@@ -143,7 +143,7 @@ module _ (values : List Value) (tests : Tests) (body : Body) (v n : ℕ) (next :
             let one : c ≡ d = same_Some c d (sym is ∙ is_v) in
             let had : Has old here y =
             has-same old w here y at_v (above w y from (s.above w y from h)) in
-            let same : x ≡ y = has_one old here x y has had in
+            let same : x ≡ y = has-one old here x y has had in
             subst (λ e. Keeps values tests new e y) one
             (subst (λ z. Keeps values tests new c z) same
             (keeps-grows values tests c mid new x s.grown kept))
@@ -158,5 +158,5 @@ module _ (values : List Value) (tests : Tests) (body : Body) (v n : ℕ) (next :
       let k = some.1.0 in
       let within = some.1.1 in
       let same : some.0 ≡ var_at members k =
-      sym some.1.2 ∙ same_default members k some.0 (record { 0 = 0 }) within in
+      sym some.1.2 ∙ same-default members k some.0 (record { 0 = 0 }) within in
       each k within a under (subst (λ w. Has a w x) same some.2, fewer a met)

@@ -8,7 +8,7 @@ use Rattle.std.specs.Prelude.{ℕ, List, length}
 use Rattle.std.specs.List.{AllByRecursion}
 use Rattle.attr_value.specs.Values.{Value, list_of}
 use Rattle.dialect_defs.specs.declared.definition.TypeDef.{TypeDef}
-use Rattle.dialect_defs.specs.Assignments.{Tests, Assignment, HaveEach, Meets}
+use Rattle.dialect_defs.specs.Assignments.{Tests, Assignment, HaveEach, MeetsBody}
 use Rattle.dialect_defs.specs.Bodies.{AreBelow, IsSoundBody}
 use Rattle.dialect_defs.specs.Goodness.{Good, vars_of}
 
@@ -29,5 +29,5 @@ pub record HasGoodKids (values : List Value) (tests : Tests) (types : List TypeD
 pub record IsInstanceOf (values : List Value) (tests : Tests) (d : TypeDef) (kids : List Value)
     : Type 0 where
   pub assignment : Assignment
-  pub meets : Meets values tests d.body assignment
+  pub meets : MeetsBody values tests d.body assignment
   pub params : HaveEach assignment (vars_of d.params) kids

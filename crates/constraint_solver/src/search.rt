@@ -2,7 +2,7 @@
 
 ghost use Rattle.std.specs.Prelude.{◌≡◌, ◌<◌, ◌≤◌, Some, length, slice_get, IsTrue, IfSome};
 ghost use Rattle.std.specs.Prelude.{IfNone, false};
-ghost use Rattle.dialect_defs.specs.Assignments.{Meets};
+ghost use Rattle.dialect_defs.specs.Assignments.{MeetsBody};
 ghost use Rattle.dialect_defs.specs.Bodies.{IsSoundBody};
 ghost use Rattle.native_predicate.specs.Lists.{tests, count};
 ghost use Rattle.constraint_solver.specs.Roots.{HasRoots, AreRoots, assigned, AreKnownIds};
@@ -81,10 +81,10 @@ pub fn solve(
     requires body { IsSoundBody (length u.now) (count natives.now) body.now }
     requires roots { AreRoots (length u.now) body.now roots.now }
     ensures meets { IfSome result (λ a.
-        Meets u.now (tests property natives.now) body.now (assigned u.now a)) }
+        MeetsBody u.now (tests property natives.now) body.now (assigned u.now a)) }
     ensures roots { IfSome result (λ a. HasRoots u.now roots.now (assigned u.now a)) }
     ensures known { IfSome result (λ a. AreKnownIds (length u.now) a) }
-    ensures none { IfNone result ((a : _) → Meets u.now (tests property natives.now) body.now a
+    ensures none { IfNone result ((a : _) → MeetsBody u.now (tests property natives.now) body.now a
         → HasRoots u.now roots.now a → ⊥) }
 {
     let n = body.vars.as_slice().len();

@@ -8,7 +8,7 @@
 --   Has a v x                           the variable v has the value x
 --   HaveEach a vs xs                    the variables have these values, one by one
 --   Keeps values tests a c x            a variable of the constraint c may have the value x
---   Meets values tests body a           each variable that has a value keeps to its constraint
+--   MeetsBody values tests body a           each variable that has a value keeps to its constraint
 use Rattle.std.specs.Prelude.{◌≡◌, ℕ, Bool, false, IsTrue, List, [], ◌∷◌, length, Contains}
 use Rattle.std.specs.Prelude.{slice_get, slice_index_or}
 use Rattle.std.specs.List.{AllByRecursion}
@@ -67,7 +67,7 @@ Keeps values tests a (AllOf members) x = AllByRecursion (λ v. Has a v x) member
 Keeps values tests a (Native i) x = Passes tests i x
 
 -- the map is of the body's variables, and each that has a value keeps to its constraint
-pub record Meets (values : List Value) (tests : Tests) (body : Body) (a : Assignment)
+pub record MeetsBody (values : List Value) (tests : Tests) (body : Body) (a : Assignment)
     : Type 0 where
   pub size : length a ≡ length body.vars
   pub each : (v : VarId) (c : Constraint) (x : Value) → slice_get body.vars v.0 ≡ Some c

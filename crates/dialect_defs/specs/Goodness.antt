@@ -13,7 +13,7 @@ use Rattle.attr_value.specs.Values.{Value, Values, none, more, list_of, depth}
 use Rattle.dialect_defs.specs.declared.body.VarId.{VarId}
 use Rattle.dialect_defs.specs.declared.definition.TypeDef.{TypeDef}
 use Rattle.dialect_defs.specs.declared.entry.Entry.{Entry}
-use Rattle.dialect_defs.specs.Assignments.{Tests, Assignment, HaveEach, Meets}
+use Rattle.dialect_defs.specs.Assignments.{Tests, Assignment, HaveEach, MeetsBody}
 
 -- how deep a value may nest
 abbrev pub depth_limit : ℕ
@@ -36,7 +36,7 @@ pub record IsInstance (values : List Value) (tests : Tests) (types : List TypeDe
   pub definition : TypeDef
   pub defined : IsDefinedAs types is_type name definition
   pub assignment : Assignment
-  pub meets : Meets values tests definition.body assignment
+  pub meets : MeetsBody values tests definition.body assignment
   pub params : HaveEach assignment (vars_of definition.params) kids
 
 -- the head of a dialect's value is an instance of a definition; other heads need none

@@ -19,7 +19,7 @@ use Rattle.dialect_defs.specs.declared.definition.OpDef.{OpDef}
 use Rattle.dialect_defs.specs.declared.entry.AttrEntry.{AttrEntry}
 use Rattle.dialect_defs.specs.declared.entry.Entry.{Entry}
 use Rattle.dialect_defs.specs.declared.entry.RegionEntry.{RegionEntry}
-use Rattle.dialect_defs.specs.Assignments.{Tests, Assignment, Has, HaveEach, Meets}
+use Rattle.dialect_defs.specs.Assignments.{Tests, Assignment, Has, HaveEach, MeetsBody}
 use Rattle.dialect_defs.specs.Segments.{Segments, parts}
 
 -- attributes by their keys
@@ -98,7 +98,7 @@ pub record MeetsBy (values : List Value) (tests : Tests) (d : OpDef) (o : Operat
       (given_sizes (attr_at o.attrs operand_sizes_key)) operand_sizes
   pub result_segments : Segments d.results (length o.results)
       (given_sizes (attr_at o.attrs result_sizes_key)) result_sizes
-  pub body : Meets values tests d.body a
+  pub body : MeetsBody values tests d.body a
   pub operands : EntriesHave a d.operands (parts operand_sizes o.operands)
   pub results : EntriesHave a d.results (parts result_sizes o.results)
   pub attrs : AllByRecursion (λ entry. AttrHas a entry (attr_at o.attrs entry.name)) d.attrs

@@ -7,14 +7,14 @@ use Rattle.ir_lexer.specs.Spelling.{Text}
 use Rattle.dialect_registry.specs.declared.code.DefFault.{DefFault}
 use Rattle.dialect_registry.specs.declared.scope.Scope.{Scope}
 use Rattle.dialect_registry.specs.First.{earlier_of, noted}
-use Rattle.dialect_registry.specs.NameFaults.{Mark, defines, labels, uses, defines_name, labels_name, is_defined, is_label, repeated, unknown, fault_of, IsFaultIn, IsFirst}
+use Rattle.dialect_registry.specs.NameFaults.{NameMark, defines, labels, uses, defines_name, labels_name, is_defined, is_label, repeated, unknown, fault_of, IsFaultIn, IsFirst}
 use Rattle.dialect_registry.specs.Scopes.{holds, Knows}
-use Rattle.dialect_registry.proofs.Firsts.{first_more, first_none}
+use Rattle.dialect_registry.proofs.Firsts.{first-more, first-none}
 
-any_more : (p : Mark → Bool) (ms : List Mark) (m : Mark)
+any-more : (p : NameMark → Bool) (ms : List NameMark) (m : NameMark)
     → list_any p (ms ++ m ∷ []) ≡ (p m || list_any p ms)
-any_more p [] m = refl
-any_more p (x ∷ ms) m = go (p x) (p m) (any_more p ms m)
+any-more p [] m = refl
+any-more p (x ∷ ms) m = go (p x) (p m) (any-more p ms m)
   where
     go : (a b : Bool) → list_any p (ms ++ m ∷ []) ≡ (b || list_any p ms)
         → (a || list_any p (ms ++ m ∷ [])) ≡ (b || (a || list_any p ms))
@@ -22,82 +22,82 @@ any_more p (x ∷ ms) m = go (p x) (p m) (any_more p ms m)
     go true false e = refl
     go false b e = e
 
-earlier_none : (a : Option DefFault) → earlier_of a None ≡ a
-earlier_none None = refl
-earlier_none (Some a) = refl
+earlier-none : (a : Option DefFault) → earlier_of a None ≡ a
+earlier-none None = refl
+earlier-none (Some a) = refl
 
-noted_is : (known : Bool) (a : Option DefFault) (f : DefFault)
+noted-is : (known : Bool) (a : Option DefFault) (f : DefFault)
     → noted known a f ≡ earlier_of a (if known then Some f else None)
-noted_is true a f = refl
-noted_is false a f = sym (earlier_none a)
+noted-is true a f = refl
+noted-is false a f = sym (earlier-none a)
 
-noted_not : (known : Bool) (a : Option DefFault) (f : DefFault)
+noted-not : (known : Bool) (a : Option DefFault) (f : DefFault)
     → noted (not known) a f ≡ earlier_of a (if known then None else Some f)
-noted_not true a f = sym (earlier_none a)
-noted_not false a f = refl
+noted-not true a f = sym (earlier-none a)
+noted-not false a f = refl
 
-module _ (ms : List Mark) (place : ℕ) (name : Text) (old new : Scope) (k : Knows ms old) where
+module _ (ms : List NameMark) (place : ℕ) (name : Text) (old new : Scope) (k : Knows ms old) where
   -- what a scope knows once a name is defined
-  pub knows_define : (known : Bool) → known ≡ holds old.defined name
+  pub knows-define : (known : Bool) → known ≡ holds old.defined name
       → ((other : Text)
       → holds new.defined other ≡ (bytes_eq name other || holds old.defined other))
       → new.labelled ≡ old.labelled → new.first ≡ noted known old.first (repeated place)
       → Knows (ms ++ defines place name ∷ []) new
-  knows_define known is added same first = record {
+  knows-define known is added same first = record {
     defined = λ other. added other ∙ ap (λ b. bytes_eq name other || b) (k.defined other)
-        ∙ sym (any_more (defines_name other) ms (defines place name));
+        ∙ sym (any-more (defines_name other) ms (defines place name));
     labelled = λ other. ap (λ s. holds s other) same ∙ k.labelled other
-        ∙ sym (any_more (labels_name other) ms (defines place name));
+        ∙ sym (any-more (labels_name other) ms (defines place name));
     first =
         let e : known ≡ is_defined ms name = is ∙ k.defined name in
         let f : new.first ≡ earlier_of old.first (fault_of ms (defines place name)) =
-        first ∙ noted_is known old.first (repeated place)
+        first ∙ noted-is known old.first (repeated place)
         ∙ ap (λ b. earlier_of old.first (if b then Some (repeated place) else None)) e in
         subst (IsFirst (IsFaultIn (ms ++ defines place name ∷ []))) (sym f)
-        (first_more ms (defines place name) old.first k.first);
+        (first-more ms (defines place name) old.first k.first);
   }
 
   -- what a scope knows once an entry has a name
-  pub knows_label : (known : Bool) → known ≡ holds old.labelled name
+  pub knows-label : (known : Bool) → known ≡ holds old.labelled name
       → ((other : Text)
       → holds new.labelled other ≡ (bytes_eq name other || holds old.labelled other))
       → new.defined ≡ old.defined → new.first ≡ noted known old.first (repeated place)
       → Knows (ms ++ labels place name ∷ []) new
-  knows_label known is added same first = record {
+  knows-label known is added same first = record {
     labelled = λ other. added other ∙ ap (λ b. bytes_eq name other || b) (k.labelled other)
-        ∙ sym (any_more (labels_name other) ms (labels place name));
+        ∙ sym (any-more (labels_name other) ms (labels place name));
     defined = λ other. ap (λ s. holds s other) same ∙ k.defined other
-        ∙ sym (any_more (defines_name other) ms (labels place name));
+        ∙ sym (any-more (defines_name other) ms (labels place name));
     first =
         let e : known ≡ is_label ms name = is ∙ k.labelled name in
         let f : new.first ≡ earlier_of old.first (fault_of ms (labels place name)) =
-        first ∙ noted_is known old.first (repeated place)
+        first ∙ noted-is known old.first (repeated place)
         ∙ ap (λ b. earlier_of old.first (if b then Some (repeated place) else None)) e in
         subst (IsFirst (IsFaultIn (ms ++ labels place name ∷ []))) (sym f)
-        (first_more ms (labels place name) old.first k.first);
+        (first-more ms (labels place name) old.first k.first);
   }
 
   -- what a scope knows once a value name is used
-  pub knows_use : (known : Bool) → known ≡ holds old.defined name
+  pub knows-use : (known : Bool) → known ≡ holds old.defined name
       → new.defined ≡ old.defined → new.labelled ≡ old.labelled
       → new.first ≡ noted (not known) old.first (unknown place)
       → Knows (ms ++ uses place name ∷ []) new
-  knows_use known is same same2 first = record {
+  knows-use known is same same2 first = record {
     defined = λ other. ap (λ s. holds s other) same ∙ k.defined other
-        ∙ sym (any_more (defines_name other) ms (uses place name));
+        ∙ sym (any-more (defines_name other) ms (uses place name));
     labelled = λ other. ap (λ s. holds s other) same2 ∙ k.labelled other
-        ∙ sym (any_more (labels_name other) ms (uses place name));
+        ∙ sym (any-more (labels_name other) ms (uses place name));
     first =
         let e : known ≡ is_defined ms name = is ∙ k.defined name in
         let f : new.first ≡ earlier_of old.first (fault_of ms (uses place name)) =
-        first ∙ noted_not known old.first (unknown place)
+        first ∙ noted-not known old.first (unknown place)
         ∙ ap (λ b. earlier_of old.first (if b then None else Some (unknown place))) e in
         subst (IsFirst (IsFaultIn (ms ++ uses place name ∷ []))) (sym f)
-        (first_more ms (uses place name) old.first k.first);
+        (first-more ms (uses place name) old.first k.first);
   }
 
 -- a scope with no name and no fault has seen nothing
-pub knows_none : (s : Scope) → ((name : Text) → holds s.defined name ≡ false)
+pub knows-none : (s : Scope) → ((name : Text) → holds s.defined name ≡ false)
     → ((name : Text) → holds s.labelled name ≡ false) → s.first ≡ None → Knows [] s
-knows_none s d l f =
-    record { defined = d; labelled = l; first = subst (IsFirst (IsFaultIn [])) (sym f) first_none }
+knows-none s d l f =
+    record { defined = d; labelled = l; first = subst (IsFirst (IsFaultIn [])) (sym f) first-none }

@@ -7,7 +7,7 @@
 --   the entries of one operation have distinct names, operands and results together
 --   a use means a value name that is defined earlier in the same body
 --
---   Mark               one thing that a text says of a name
+--   NameMark               one thing that a text says of a name
 --   fault_of before m  the fault of the mark m, behind those before it
 --   IsFaultIn ms f     f is the fault of a mark of ms
 --   IsFault defs f     f is a fault of the file
@@ -30,58 +30,58 @@ use Rattle.dialect_registry.specs.declared.code.DefCode.TheVariants.{NameRepeate
 use Rattle.dialect_registry.specs.Codes.{code_number}
 
 -- one thing that a text says of a name, and the place of that name
-pub data Mark : Type 0 where
+pub data NameMark : Type 0 where
   -- this name is defined here
-  defines : ℕ → Text → Mark
+  defines : ℕ → Text → NameMark
   -- an entry has this name
-  labels : ℕ → Text → Mark
+  labels : ℕ → Text → NameMark
   -- this value name is used
-  uses : ℕ → Text → Mark
+  uses : ℕ → Text → NameMark
 
 -- ---- the marks of a text
 
 -- an entry's name, where it has one
-abbrev pub label_of : Option NameCst → List Mark
+abbrev pub label_of : Option NameCst → List NameMark
 label_of None = []
 label_of (Some n) = labels n.place n.name ∷ []
 
 -- what an entry says of names: its own name comes first, and then the value name that it uses
-abbrev pub marks_of_entry : RawEntry → List Mark
+abbrev pub marks_of_entry : RawEntry → List NameMark
 marks_of_entry e = label_of e.name ++ uses e.var.place e.var.name ∷ []
 
 -- what a statement says of names
-abbrev pub marks_of_kind : StatementKind → List Mark
+abbrev pub marks_of_kind : StatementKind → List NameMark
 marks_of_kind (Constraint name expr) = defines name.place name.name ∷ []
 marks_of_kind (Operands entries) = flat_map marks_of_entry entries
 marks_of_kind (Results entries) = flat_map marks_of_entry entries
 marks_of_kind _ = []
 
 -- what the body of a definition says of names
-abbrev pub marks_of_body : RawDef → List Mark
+abbrev pub marks_of_body : RawDef → List NameMark
 marks_of_body def = flat_map (λ s. marks_of_kind s.kind) def.statements
 
 -- what a dialect says of its definitions' names
-abbrev pub marks_of_dialect : RawDialect → List Mark
+abbrev pub marks_of_dialect : RawDialect → List NameMark
 marks_of_dialect dialect = map (λ d. defines d.place d.name) dialect.defs
 
 -- ---- the fault of a mark
 
 -- the mark defines this name
-abbrev pub defines_name : Text → Mark → Bool
+abbrev pub defines_name : Text → NameMark → Bool
 defines_name name (defines place n) = bytes_eq n name
 defines_name name _ = false
 
 -- the mark names an entry so
-abbrev pub labels_name : Text → Mark → Bool
+abbrev pub labels_name : Text → NameMark → Bool
 labels_name name (labels place n) = bytes_eq n name
 labels_name name _ = false
 
 -- a name is defined by one of these marks
-abbrev pub is_defined : List Mark → Text → Bool
+abbrev pub is_defined : List NameMark → Text → Bool
 is_defined ms name = list_any (defines_name name) ms
 
 -- an entry is named so by one of these marks
-abbrev pub is_label : List Mark → Text → Bool
+abbrev pub is_label : List NameMark → Text → Bool
 is_label ms name = list_any (labels_name name) ms
 
 -- the name at this place stands earlier
@@ -93,17 +93,17 @@ abbrev pub unknown : ℕ → DefFault
 unknown place = record { place = place; code = RefUnknown }
 
 -- the fault of a mark, behind those before it, where it has one
-abbrev pub fault_of : List Mark → Mark → Option DefFault
+abbrev pub fault_of : List NameMark → NameMark → Option DefFault
 fault_of before (defines place name) =
     if is_defined before name then Some (repeated place) else None
 fault_of before (labels place name) = if is_label before name then Some (repeated place) else None
 fault_of before (uses place name) = if is_defined before name then None else Some (unknown place)
 
 -- a fault of one of the marks, each behind those before it
-pub record IsFaultIn (ms : List Mark) (f : DefFault) : Type 0 where
-  pub before : List Mark
-  pub mark : Mark
-  pub after : List Mark
+pub record IsFaultIn (ms : List NameMark) (f : DefFault) : Type 0 where
+  pub before : List NameMark
+  pub mark : NameMark
+  pub after : List NameMark
   pub cut : ms ≡ before ++ mark ∷ after
   pub is : fault_of before mark ≡ Some f
 

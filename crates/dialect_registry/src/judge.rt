@@ -3,7 +3,7 @@
 ghost use Rattle.std.specs.Prelude.{◌≡◌, ◌++◌, List, IfOk, OnOk};
 ghost use Rattle.std.specs.List.{flat_map};
 ghost use Rattle.dialect_registry.specs.NameFaults as spec;
-ghost use Rattle.dialect_registry.specs.NameFaults.{Mark, Among, IsFirst, IsFaultIn};
+ghost use Rattle.dialect_registry.specs.NameFaults.{NameMark, Among, IsFirst, IsFaultIn};
 ghost use Rattle.dialect_registry.specs.NameFaults.{IsFault, IsDialectFault, IsBodyFault};
 ghost use Rattle.dialect_registry.specs.Scopes.{Knows};
 
@@ -69,7 +69,7 @@ fn judge_body(alloc: Global, def: &RawDef) -> Result<Option<DefFault>, AllocErro
 
 /// Sees what a statement says of names.
 fn see_statement<'a>(scope: &mut Scope<'a>, statement: &'a RawStatement) -> Result<(), AllocError>
-    ensures { OnOk result ((ms : List Mark) → Knows ms scope.old →
+    ensures { OnOk result ((ms : List NameMark) → Knows ms scope.old →
         Knows (ms ++ spec.marks_of_kind statement.now.kind) scope.new) }
 {
     match &statement.kind {
@@ -82,7 +82,7 @@ fn see_statement<'a>(scope: &mut Scope<'a>, statement: &'a RawStatement) -> Resu
 
 /// Sees what entries say of names.
 fn see_entries<'a>(scope: &mut Scope<'a>, entries: &'a [RawEntry]) -> Result<(), AllocError>
-    ensures { OnOk result ((ms : List Mark) → Knows ms scope.old →
+    ensures { OnOk result ((ms : List NameMark) → Knows ms scope.old →
         Knows (ms ++ flat_map spec.marks_of_entry entries.now) scope.new) }
 {
     for entry in entries {
@@ -93,7 +93,7 @@ fn see_entries<'a>(scope: &mut Scope<'a>, entries: &'a [RawEntry]) -> Result<(),
 
 /// Sees what an entry says of names.
 fn see_entry<'a>(scope: &mut Scope<'a>, entry: &'a RawEntry) -> Result<(), AllocError>
-    ensures { OnOk result ((ms : List Mark) → Knows ms scope.old →
+    ensures { OnOk result ((ms : List NameMark) → Knows ms scope.old →
         Knows (ms ++ spec.marks_of_entry entry.now) scope.new) }
 {
     see_label(scope, &entry.name)?;
@@ -103,7 +103,7 @@ fn see_entry<'a>(scope: &mut Scope<'a>, entry: &'a RawEntry) -> Result<(), Alloc
 
 /// Sees the name of an entry, where it has one.
 fn see_label<'a>(scope: &mut Scope<'a>, name: &'a Option<NameCst>) -> Result<(), AllocError>
-    ensures { OnOk result ((ms : List Mark) → Knows ms scope.old →
+    ensures { OnOk result ((ms : List NameMark) → Knows ms scope.old →
         Knows (ms ++ spec.label_of name.now) scope.new) }
 {
     match name {

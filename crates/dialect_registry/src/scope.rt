@@ -16,7 +16,7 @@ pub struct Scope<'a> {
 }
 
 impl<'a> Scope<'a> {
-    ghost use Rattle.dialect_registry.specs.NameFaults.{Mark};
+    ghost use Rattle.dialect_registry.specs.NameFaults.{NameMark};
     ghost use Rattle.dialect_registry.specs.First.{noted};
     ghost use Rattle.dialect_registry.specs.NameFaults as mark;
     ghost use Rattle.dialect_registry.specs.Scopes.{Knows};
@@ -34,7 +34,7 @@ impl<'a> Scope<'a> {
 
     /// Sees that a name is defined.
     pub fn define(&mut self, place: u32, name: &'a [u8]) -> Result<(), AllocError>
-        ensures { OnOk result ((ms : List Mark) → Knows ms self.old →
+        ensures { OnOk result ((ms : List NameMark) → Knows ms self.old →
             Knows (ms ++ mark.defines place name.now ∷ []) self.new) }
     {
         let known = self.defined.add(name)?;
@@ -44,7 +44,7 @@ impl<'a> Scope<'a> {
 
     /// Sees that an entry has a name.
     pub fn label(&mut self, place: u32, name: &'a [u8]) -> Result<(), AllocError>
-        ensures { OnOk result ((ms : List Mark) → Knows ms self.old →
+        ensures { OnOk result ((ms : List NameMark) → Knows ms self.old →
             Knows (ms ++ mark.labels place name.now ∷ []) self.new) }
     {
         let known = self.labelled.add(name)?;
@@ -54,7 +54,7 @@ impl<'a> Scope<'a> {
 
     /// Sees that a value name is used.
     pub fn use_name(&mut self, place: u32, name: &[u8])
-        ensures { (ms : List Mark) → Knows ms self.old →
+        ensures { (ms : List NameMark) → Knows ms self.old →
             Knows (ms ++ mark.uses place name.now ∷ []) self.new }
     {
         let known = self.defined.has(name);

@@ -15,10 +15,10 @@ pub data Split (a b c d : Tokens) : Type 0 where
   shorter : (y : Token) (e : Tokens) → c ≡ a ++ y ∷ e → b ≡ y ∷ (e ++ d) → Split a b c d
 
 -- the same with one more token before both
-split_cons : (x : Token) {a b c d : Tokens} → Split a b c d → Split (x ∷ a) b (x ∷ c) d
-split_cons x (same p q) = same (ap (λ l. x ∷ l) p) q
-split_cons x (longer y e p q) = longer y e (ap (λ l. x ∷ l) p) q
-split_cons x (shorter y e p q) = shorter y e (ap (λ l. x ∷ l) p) q
+split-cons : (x : Token) {a b c d : Tokens} → Split a b c d → Split (x ∷ a) b (x ∷ c) d
+split-cons x (same p q) = same (ap (λ l. x ∷ l) p) q
+split-cons x (longer y e p q) = longer y e (ap (λ l. x ∷ l) p) q
+split-cons x (shorter y e p q) = shorter y e (ap (λ l. x ∷ l) p) q
 
 -- two ways to cut a list lie in one of these ways
 pub split : (a b c d : Tokens) → a ++ b ≡ c ++ d → Split a b c d
@@ -28,13 +28,13 @@ split (x ∷ a) b [] d h = longer x a refl (sym h)
 split (x ∷ a) b (y ∷ c) d h =
     let head : x ≡ y = cc in
     let tail : a ++ b ≡ c ++ d = cc in
-    subst (λ (z : Token). Split (x ∷ a) b (z ∷ c) d) head (split_cons x (split a b c d tail))
+    subst (λ (z : Token). Split (x ∷ a) b (z ∷ c) d) head (split-cons x (split a b c d tail))
 
 -- the head of what stands behind a front
-head_of : (d2 : Tokens) (t y : Token) (e more w : Tokens) → d2 ++ t ∷ e ≡ y ∷ w
+head-of : (d2 : Tokens) (t y : Token) (e more w : Tokens) → d2 ++ t ∷ e ≡ y ∷ w
     → (v : Tokens) × (d2 ++ t ∷ more ≡ y ∷ v)
-head_of [] t y e more w h = (more, ap (λ z. z ∷ more) (cc))
-head_of (x ∷ d2) t y e more w h = (d2 ++ t ∷ more, ap (λ z. z ∷ (d2 ++ t ∷ more)) (cc))
+head-of [] t y e more w h = (more, ap (λ z. z ∷ more) (cc))
+head-of (x ∷ d2) t y e more w h = (d2 ++ t ∷ more, ap (λ z. z ∷ (d2 ++ t ∷ more)) (cc))
 
 module _ (P Q DP DQ : Lists)
     (apart : (d : Tokens) (y : Token) (e w : Tokens) → P d → P (d ++ y ∷ e) → Q (y ∷ w) → ⊥)
@@ -60,25 +60,25 @@ module _ (P Q DP DQ : Lists)
       go (shorter y e e1 e2) = absurd (apart front y e (e ++ z) pf (subst P e1 p) (subst Q e2 qb))
 
   -- behind both pieces the same is barred as behind the second
-  pub barred_second : (d1 d2 rest : Tokens) → P d1 → Barred P d1 (d2 ++ rest) → Barred Q d2 rest
+  pub barred-second : (d1 d2 rest : Tokens) → P d1 → Barred P d1 (d2 ++ rest) → Barred Q d2 rest
       → Barred Joined (d1 ++ d2) rest
-  barred_second d1 d2 rest p bp bq t more e is (front, back, h, pf, qb) =
+  barred-second d1 d2 rest p bp bq t more e is (front, back, h, pf, qb) =
       bq t more e is (align d1 (d2 ++ t ∷ e) front back p
-      (λ y e' w hw px. let v = head_of d2 t y e more w hw in
+      (λ y e' w hw px. let v = head-of d2 t y e more w hw in
       bp y v.0 e' (ap (λ l. d2 ++ l) is ∙ v.1) px)
       pf qb (sym (append_assoc d1 d2 (t ∷ e)) ∙ h))
 
   -- where the second is no piece, both are none
-  pub none_second : (d1 d2 rest : Tokens) → P d1 → Barred P d1 (d2 ++ rest) → (Q d2 → ⊥)
+  pub none-second : (d1 d2 rest : Tokens) → P d1 → Barred P d1 (d2 ++ rest) → (Q d2 → ⊥)
       → Joined (d1 ++ d2) → ⊥
-  none_second d1 d2 rest p bp nq (front, back, h, pf, qb) =
+  none-second d1 d2 rest p bp nq (front, back, h, pf, qb) =
       nq (align d1 d2 front back p
       (λ y e' w hw px. bp y (w ++ rest) e' (ap (λ l. l ++ rest) hw) px) pf qb h)
 
   -- where nothing is too deep in either, nothing is in both
-  pub shallow_second : (d1 d2 rest : Tokens) → P d1 → Barred P d1 (d2 ++ rest) → Shallow DP d1
+  pub shallow-second : (d1 d2 rest : Tokens) → P d1 → Barred P d1 (d2 ++ rest) → Shallow DP d1
       → Shallow DQ d2 → Shallow Deeper (d1 ++ d2)
-  shallow_second d1 d2 rest p bp sp sq a b h (inl x) = go (split a b d1 d2 (sym h))
+  shallow-second d1 d2 rest p bp sp sq a b h (inl x) = go (split a b d1 d2 (sym h))
     where
       v : Viable P a
       v = seen a x
@@ -88,7 +88,7 @@ module _ (P Q DP DQ : Lists)
       go (longer y e e1 e2) = bp y ((e ++ b) ++ rest) (e ++ v.0) (ap (λ l. l ++ rest) e2)
           (subst P (ap (λ l. l ++ v.0) e1 ∙ append_assoc d1 (y ∷ e) v.0) v.1)
       go (shorter y e e1 e2) = sp a (y ∷ e) e1 x
-  shallow_second d1 d2 rest p bp sp sq a b h (inr (front, back, is, pf, x)) =
+  shallow-second d1 d2 rest p bp sp sq a b h (inr (front, back, is, pf, x)) =
       go back refl
       (split front (back ++ b) d1 d2 (sym (h ∙ ap (λ l. l ++ b) is ∙ append_assoc front back b)))
     where
@@ -106,9 +106,9 @@ module _ (P Q DP DQ : Lists)
           (subst Q (ap (λ l. l ++ v.0) ek ∙ ap (λ w. w ∷ (k ++ v.0)) hd) v.1)
 
   -- where the first goes on to no piece, both are barred as the first is
-  pub barred_first : (d rest : Tokens) → Viable P d → (P d → ⊥) → Barred P d rest
+  pub barred-first : (d rest : Tokens) → Viable P d → (P d → ⊥) → Barred P d rest
       → Barred Joined d rest
-  barred_first d rest v n bp t more e is (front, back, h, pf, qb) =
+  barred-first d rest v n bp t more e is (front, back, h, pf, qb) =
       go (split front back d (t ∷ e) (sym h))
     where
       go : Split front back d (t ∷ e) → ⊥
@@ -118,8 +118,8 @@ module _ (P Q DP DQ : Lists)
           (subst P (ap (λ l. l ++ v.0) e1 ∙ append_assoc front (y ∷ e') v.0) v.1) (subst Q e2 qb)
 
   -- where the first is no piece yet, both are none
-  pub none_first : (d : Tokens) → Viable P d → (P d → ⊥) → Joined d → ⊥
-  none_first d v n (front, back, h, pf, qb) = go back refl
+  pub none-first : (d : Tokens) → Viable P d → (P d → ⊥) → Joined d → ⊥
+  none-first d v n (front, back, h, pf, qb) = go back refl
     where
       go : (k : Tokens) → back ≡ k → ⊥
       go [] ek = n (subst P (sym (h ∙ ap (λ l. front ++ l) ek ∙ append-nil front)) pf)
@@ -128,9 +128,9 @@ module _ (P Q DP DQ : Lists)
           ∙ append_assoc front (y ∷ k) v.0) v.1) (subst Q ek qb)
 
   -- where the first goes on and is shallow, both are shallow
-  pub shallow_first : (d : Tokens) → Viable P d → Shallow DP d → Shallow Deeper d
-  shallow_first d v sp a b h (inl x) = sp a b h x
-  shallow_first d v sp a b h (inr (front, back, is, pf, x)) = go back refl
+  pub shallow-first : (d : Tokens) → Viable P d → Shallow DP d → Shallow Deeper d
+  shallow-first d v sp a b h (inl x) = sp a b h x
+  shallow-first d v sp a b h (inr (front, back, is, pf, x)) = go back refl
     where
       u : Viable Q back
       u = next_seen back x

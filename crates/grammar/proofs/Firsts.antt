@@ -6,10 +6,10 @@
 use Rattle.std.proofs.Common.{◌≡◌, Bool, true, ◌&&◌, ◌||◌, List, [], ◌∷◌, ◌++◌, ◌⊎◌, inl, inr, refl, sym, ◌∙◌, subst}
 use Rattle.ir_lexer.specs.Tokens.{Token}
 use Rattle.grammar.specs.Looks.{passes}
-use Rattle.grammar.proofs.Meet.{and_true, or_true, true_or}
-use Rattle.grammar.specs.Grammar.{Tokens, Each, G, ret, tok, both, alt, star, chain, made, placed, kid, Links, Derives, nullable, starts}
+use Rattle.grammar.proofs.Meet.{and-true, or-true, true-or}
+use Rattle.grammar.specs.Grammar.{Tokens, EachPiece, G, ret, tok, both, alt, star, chain, made, placed, kid, Links, Derives, nullable, starts}
 use Rattle.grammar.specs.Front.{Lists, Some_of}
-use Rattle.grammar.proofs.Choice.{empty_parts}
+use Rattle.grammar.proofs.Choice.{empty-parts}
 
 -- what is known of the pieces of nonterminals: their first tokens, and that none is empty
 pub record Kids {X : Type 0} {Sem : X → Type 0} (Derived : (x : X) → Tokens → Sem x → Type 0)
@@ -19,21 +19,21 @@ pub record Kids {X : Type 0} {Sem : X → Type 0} (Derived : (x : X) → Tokens 
   pub full : (x : X) (c : Sem x) → Derived x [] c → ⊥
 
 -- what a row of pieces begins with
-pub first_of_each : {B : Type 0} (R : Tokens → B → Type 0) (begins : Token → Bool)
+pub first-of-each : {B : Type 0} (R : Tokens → B → Type 0) (begins : Token → Bool)
     (h : (t : Token) (ts : Tokens) (b : B) → R (t ∷ ts) b → begins t ≡ true)
-    (bs : List B) (t : Token) (ts : Tokens) → Each R (t ∷ ts) bs → begins t ≡ true
-first_of_each R begins h [] t ts x = absurd (cc)
-first_of_each R begins h (b ∷ bs) t ts (front, back, is, r, more) =
-    go front is r (first_of_each R begins h bs)
+    (bs : List B) (t : Token) (ts : Tokens) → EachPiece R (t ∷ ts) bs → begins t ≡ true
+first-of-each R begins h [] t ts x = absurd (cc)
+first-of-each R begins h (b ∷ bs) t ts (front, back, is, r, more) =
+    go front is r (first-of-each R begins h bs)
   where
     go : (k : Tokens) → t ∷ ts ≡ k ++ back → R k b
-        → ((t : Token) (ts : Tokens) → Each R (t ∷ ts) bs → begins t ≡ true) → begins t ≡ true
-    go [] is r again = again t ts (subst (λ (w : Tokens). Each R w bs) (sym is) more)
+        → ((t : Token) (ts : Tokens) → EachPiece R (t ∷ ts) bs → begins t ≡ true) → begins t ≡ true
+    go [] is r again = again t ts (subst (λ (w : Tokens). EachPiece R w bs) (sym is) more)
     go (y ∷ k) is r again = let hd : y ≡ t = cc in
         subst (λ (z : Token). begins z ≡ true) hd (h y k b r)
 
 -- what a row of heads and bodies begins with
-pub first_of_links : {B C D I : Type 0} (p : B → C → I) (q : B → D → I) (H : Tokens → B → Type 0)
+pub first-of-links : {B C D I : Type 0} (p : B → C → I) (q : B → D → I) (H : Tokens → B → Type 0)
     (K : Tokens → C → Type 0) (L : Tokens → D → Type 0) (sh sk sl : Token → Bool) (nh : Bool)
     → ((t : Token) (w : Tokens) (b : B) → H (t ∷ w) b → sh t ≡ true)
     → ((b : B) → H [] b → nh ≡ true)
@@ -41,9 +41,9 @@ pub first_of_links : {B C D I : Type 0} (p : B → C → I) (q : B → D → I) 
     → ((t : Token) (w : Tokens) (d : D) → L (t ∷ w) d → sl t ≡ true)
     → (is : List I) (t : Token) (w : Tokens) → Links p q H K L (t ∷ w) is
     → (sh t || (nh && (sk t || sl t))) ≡ true
-first_of_links p q H K L sh sk sl nh fh eh fk fl [] t w x = absurd (cc)
-first_of_links {B = B} {C = C} {D = D} {I = I} p q H K L sh sk sl nh fh eh fk fl (i ∷ is) t w
-    (front, back, b, e, h, r) = go front e h r (first_of_links p q H K L sh sk sl nh fh eh fk fl is)
+first-of-links p q H K L sh sk sl nh fh eh fk fl [] t w x = absurd (cc)
+first-of-links {B = B} {C = C} {D = D} {I = I} p q H K L sh sk sl nh fh eh fk fl (i ∷ is) t w
+    (front, back, b, e, h, r) = go front e h r (first-of-links p q H K L sh sk sl nh fh eh fk fl is)
   where
     Body : Tokens → Type 0
     Body back = ((mid rest : Tokens) × (c : C) × (back ≡ mid ++ rest) × K mid c
@@ -51,31 +51,31 @@ first_of_links {B = B} {C = C} {D = D} {I = I} p q H K L sh sk sl nh fh eh fk fl
 
     headed : (a n : Bool) → n ≡ true → (x y : Bool) → (x ≡ true) ⊎ (y ≡ true)
         → (a || (n && (x || y))) ≡ true
-    headed a n e x y (inl z) = true_or a (n && (x || y)) (rw (e, z) refl)
-    headed a n e x y (inr z) = true_or a (n && (x || y)) (let u = true_or x y z in rw (e, u) refl)
+    headed a n e x y (inl z) = true-or a (n && (x || y)) (rw (e, z) refl)
+    headed a n e x y (inr z) = true-or a (n && (x || y)) (let u = true-or x y z in rw (e, u) refl)
 
-    go_mid : (mid rest : Tokens) (c : C) → t ∷ w ≡ mid ++ rest → K mid c → Links p q H K L rest is
+    go-mid : (mid rest : Tokens) (c : C) → t ∷ w ≡ mid ++ rest → K mid c → Links p q H K L rest is
         → nh ≡ true
         → ((t : Token) (w : Tokens) → Links p q H K L (t ∷ w) is
         → (sh t || (nh && (sk t || sl t))) ≡ true) → (sh t || (nh && (sk t || sl t))) ≡ true
-    go_mid [] rest c e k more n again =
+    go-mid [] rest c e k more n again =
         again t w (subst (λ (v : Tokens). Links p q H K L v is) (sym e) more)
-    go_mid (z ∷ mid) rest c e k more n again = let hd : z ≡ t = cc in
+    go-mid (z ∷ mid) rest c e k more n again = let hd : z ≡ t = cc in
         headed (sh t) nh n (sk t) (sl t)
         (inl (subst (λ (v : Token). sk v ≡ true) hd (fk z mid c k)))
 
-    go_body : t ∷ w ≡ back → Body back → nh ≡ true
+    go-body : t ∷ w ≡ back → Body back → nh ≡ true
         → ((t : Token) (w : Tokens) → Links p q H K L (t ∷ w) is
         → (sh t || (nh && (sk t || sl t))) ≡ true) → (sh t || (nh && (sk t || sl t))) ≡ true
-    go_body e (inl (mid, rest, c, e2, k, more, ei)) n again =
-        go_mid mid rest c (e ∙ e2) k more n again
-    go_body e (inr (d, l, en, ei)) n again =
+    go-body e (inl (mid, rest, c, e2, k, more, ei)) n again =
+        go-mid mid rest c (e ∙ e2) k more n again
+    go-body e (inr (d, l, en, ei)) n again =
         headed (sh t) nh n (sk t) (sl t) (inr (fl t w d (subst (λ (v : Tokens). L v d) (sym e) l)))
 
     go : (k : Tokens) → t ∷ w ≡ k ++ back → H k b → Body back
         → ((t : Token) (w : Tokens) → Links p q H K L (t ∷ w) is
         → (sh t || (nh && (sk t || sl t))) ≡ true) → (sh t || (nh && (sk t || sl t))) ≡ true
-    go [] e h r again = go_body e r (eh b h) again
+    go [] e h r again = go-body e r (eh b h) again
     go (z ∷ k) e h r again = let hd : z ≡ t = cc in
         let u : sh t ≡ true = subst (λ (v : Token). sh v ≡ true) hd (fh z k b h) in rw u refl
 
@@ -96,35 +96,35 @@ module _ {X : Type 0} {Sem : X → Type 0} (Derived : (x : X) → Tokens → Sem
     empty (ret b) a d = refl
     empty (tok begins look f) a (t, is, p, e) = absurd (cc)
     empty (both f g h) a (front, back, b, c, is, x, y, e) =
-        let p = empty_parts front back is in
+        let p = empty-parts front back is in
         let u : nullable g ≡ true = empty g b (subst (λ (w : Tokens). Tree g w b) p.0 x) in
         let v : nullable h ≡ true = empty h c (subst (λ (w : Tokens). Tree h w c) p.1 y) in
         rw (u, v) refl
     empty (alt g h) a (inl x) = let u = empty g a x in rw u refl
-    empty (alt g h) a (inr x) = true_or _ _ (empty h a x)
+    empty (alt g h) a (inr x) = true-or _ _ (empty h a x)
     empty (star f g) a x = refl
     empty (chain f u v h k l) a x = refl
     empty (made f g) a (b, x, e) = empty g b x
     empty (placed f g) a (b, x, e) = empty g b x
     empty (kid x f) a (c, y, e) = absurd (kids.full x c y)
 
-    empty_alt : {A : Type 0} (g h : G X Sem A) → (nullable g ≡ true) ⊎ (nullable h ≡ true)
+    empty-alt : {A : Type 0} (g h : G X Sem A) → (nullable g ≡ true) ⊎ (nullable h ≡ true)
         → (nullable g ≡ true → Piece g []) → (nullable h ≡ true → Piece h []) → Piece (alt g h) []
-    empty_alt g h (inl e) x y = let p = x e in (p.0, inl p.1)
-    empty_alt g h (inr e) x y = let p = y e in (p.0, inr p.1)
+    empty-alt g h (inl e) x y = let p = x e in (p.0, inl p.1)
+    empty-alt g h (inr e) x y = let p = y e in (p.0, inr p.1)
 
     -- a nullable grammar has an empty piece
-    pub empty_piece : {A : Type 0} (g : G X Sem A) → nullable g ≡ true → Piece g []
-    empty_piece (ret b) e = (b, (refl, refl))
-    empty_piece (tok begins look f) e = absurd (cc)
-    empty_piece (both f g h) e = let p = and_true _ _ e in let x = empty_piece g p.0 in
-        let y = empty_piece h p.1 in (f x.0 y.0, ([], [], x.0, y.0, refl, x.1, y.1, refl))
-    empty_piece (alt g h) e = empty_alt g h (or_true _ _ e) (empty_piece g) (empty_piece h)
-    empty_piece (star f g) e = (f [], ([], refl, refl))
-    empty_piece (chain f u v h k l) e = (f [], ([], refl, refl))
-    empty_piece (made f g) e = let x = empty_piece g e in (f x.0, (x.0, x.1, refl))
-    empty_piece (placed f g) e = let x = empty_piece g e in (f 0 x.0, (x.0, x.1, refl))
-    empty_piece (kid x f) e = absurd (cc)
+    pub empty-piece : {A : Type 0} (g : G X Sem A) → nullable g ≡ true → Piece g []
+    empty-piece (ret b) e = (b, (refl, refl))
+    empty-piece (tok begins look f) e = absurd (cc)
+    empty-piece (both f g h) e = let p = and-true _ _ e in let x = empty-piece g p.0 in
+        let y = empty-piece h p.1 in (f x.0 y.0, ([], [], x.0, y.0, refl, x.1, y.1, refl))
+    empty-piece (alt g h) e = empty-alt g h (or-true _ _ e) (empty-piece g) (empty-piece h)
+    empty-piece (star f g) e = (f [], ([], refl, refl))
+    empty-piece (chain f u v h k l) e = (f [], ([], refl, refl))
+    empty-piece (made f g) e = let x = empty-piece g e in (f x.0, (x.0, x.1, refl))
+    empty-piece (placed f g) e = let x = empty-piece g e in (f 0 x.0, (x.0, x.1, refl))
+    empty-piece (kid x f) e = absurd (cc)
 
     -- a piece begins with a token that its grammar starts with
     pub first : {A : Type 0} (g : G X Sem A) (t : Token) (ts : Tokens) (a : A) → Tree g (t ∷ ts) a
@@ -141,15 +141,15 @@ module _ {X : Type 0} {Sem : X → Type 0} (Derived : (x : X) → Tokens → Sem
             → (opens g t || (nullable g && opens h t)) ≡ true
         go [] is x fg fh = let u = empty g b x in
             let v = fh t ts c (subst (λ (w : Tokens). Tree h w c) (sym is) y) in
-            true_or (opens g t) (nullable g && opens h t) (rw (u, v) refl)
+            true-or (opens g t) (nullable g && opens h t) (rw (u, v) refl)
         go (z ∷ k) is x fg fh = let hd : z ≡ t = cc in
             let u : opens g t ≡ true = subst (λ (w : Token). opens g w ≡ true) hd (fg z k b x) in
             rw u refl
     first (alt g h) t ts a (inl x) = let u = first g t ts a x in rw u refl
-    first (alt g h) t ts a (inr x) = true_or _ _ (first h t ts a x)
-    first (star f g) t ts a (bs, x, e) = first_of_each (Tree g) (opens g) (first g) bs t ts x
+    first (alt g h) t ts a (inr x) = true-or _ _ (first h t ts a x)
+    first (star f g) t ts a (bs, x, e) = first-of-each (Tree g) (opens g) (first g) bs t ts x
     first (chain f u v h k l) t ts a (is, x, e) =
-        first_of_links u v (Tree h) (Tree k) (Tree l) (opens h) (opens k) (opens l) (nullable h)
+        first-of-links u v (Tree h) (Tree k) (Tree l) (opens h) (opens k) (opens l) (nullable h)
         (first h) (empty h) (first k) (first l) is t ts x
     first (made f g) t ts a (b, x, e) = first g t ts b x
     first (placed f g) t ts a (b, x, e) = first g t ts b x

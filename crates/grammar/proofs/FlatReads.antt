@@ -5,7 +5,7 @@
 use Rattle.std.proofs.Common.{◌≡◌, true, List, [], ◌∷◌, Result}
 use Rattle.grammar.specs.Looks.{Look}
 use Rattle.grammar.specs.Grammar.{Tokens}
-use Rattle.grammar.specs.Front.{Viable, Some_of, Meets}
+use Rattle.grammar.specs.Front.{Viable, Some_of, IsExactAnswer}
 use Rattle.grammar.specs.OneToken.{check}
 use Rattle.grammar.specs.Flat.{Flat, nothing_derived, Spelled, TooDeepIn, flat}
 use Rattle.ir_lexer.specs.Source.{Source}
@@ -15,11 +15,11 @@ use Rattle.grammar.specs.Rules.{whole}
 use Rattle.grammar.specs.Ran.{reads_in, ReadsWhole}
 use Rattle.grammar.proofs.Firsts.{Kids}
 use Rattle.grammar.proofs.Begun.{Samples, IsOneToken}
-use Rattle.grammar.proofs.Exact.{seen, exact}
-use Rattle.grammar.proofs.More.{one_token}
+use Rattle.grammar.proofs.Exact.{deep-viable, exact}
+use Rattle.grammar.proofs.More.{one-token}
 use Rattle.grammar.proofs.Check.{checked}
 use Rattle.grammar.proofs.Repeats.{Fits}
-use Rattle.grammar.proofs.Unique.{one_tree}
+use Rattle.grammar.proofs.Unique.{one-tree}
 use Rattle.grammar.proofs.Wholes.{answered, accepts}
 
 -- the looks of no nonterminal
@@ -33,45 +33,45 @@ samples : Samples nothing_derived flat.begins
 samples = record { sample = λ x. absurd x }
 
 -- no nonterminal gives a token back, since there is none
-pub flat_fits : Fits flat
-flat_fits = record { takes = λ x. absurd x }
+pub flat-fits : Fits flat
+flat-fits = record { takes = λ x. absurd x }
 
 module _ {A : Type 0} (g : Flat A) (one : check no_looks no_looks g ≡ true) where
   decided : IsOneToken nothing_derived flat.begins g
-  decided = one_token flat.begins flat.begins nothing_derived kids (λ x d y e a b p q. absurd p) g
+  decided = one-token flat.begins flat.begins nothing_derived kids (λ x d y e a b p q. absurd p) g
       (checked no_looks no_looks g one)
 
   -- the reader meets what is asked of it
-  pub flat_meets : (ts : Tokens) → Meets (Spelled g) (TooDeepIn g) ts (reads_in flat g ts)
+  pub flat-meets : (ts : Tokens) → IsExactAnswer (Spelled g) (TooDeepIn g) ts (reads_in flat g ts)
   unfolding reads_in
-  flat_meets ts =
+  flat-meets ts =
       exact nothing_derived flat.begins kids samples (λ x t e. absurd x) (λ x p. ⊥) (λ x d. d)
       (λ x p d. absurd d) flat.none
       flat.inside (λ x. absurd x) (λ x ts. absurd x) g decided ts
 
   -- what is too deep is viable
-  pub flat_seen : (p : Tokens) → TooDeepIn g p → Viable (Some_of (Spelled g)) p
-  flat_seen p d =
-      seen nothing_derived flat.begins kids samples (λ x t e. absurd x) (λ x p. ⊥) (λ x d. d)
+  pub flat-seen : (p : Tokens) → TooDeepIn g p → Viable (Some_of (Spelled g)) p
+  flat-seen p d =
+      deep-viable nothing_derived flat.begins kids samples (λ x t e. absurd x) (λ x p. ⊥) (λ x d. d)
       (λ x p d. absurd d) flat.none g decided p d
 
   -- a list has one tree
-  pub flat_one_tree : (d : Tokens) (a b : A) → Spelled g d a → Spelled g d b → a ≡ b
-  flat_one_tree d a b x y =
-      one_tree flat.begins nothing_derived kids (λ x d a b p q. absurd p) g decided d a b x y
+  pub flat-one-tree : (d : Tokens) (a b : A) → Spelled g d a → Spelled g d b → a ≡ b
+  flat-one-tree d a b x y =
+      one-tree flat.begins nothing_derived kids (λ x d a b p q. absurd p) g decided d a b x y
 
 -- what a call that read a whole flat text answers
 module _ {A : Type 0} (g : Flat A) (one : check no_looks no_looks (whole g) ≡ true) {s s' : Source}
     (r : Result A SyntaxStop) (x : ReadsWhole flat g s r s') where
   -- the answer of the call is the tree of the tokens or their refusal
-  pub flat_answered : Told s (λ ts. Answered (Spelled (whole g)) (TooDeepIn (whole g)) ts r)
-  flat_answered ts is =
+  pub flat-answered : Told s (λ ts. Answered (Spelled (whole g)) (TooDeepIn (whole g)) ts r)
+  flat-answered ts is =
       answered (Spelled (whole g)) (TooDeepIn (whole g)) (s.now ∷ ts)
-      (reads_in flat (whole g) (s.now ∷ ts)) r (flat_meets (whole g) one (s.now ∷ ts))
+      (reads_in flat (whole g) (s.now ∷ ts)) r (flat-meets (whole g) one (s.now ∷ ts))
       (x.told ts is)
 
   -- tokens with a front are answered by its tree
-  pub flat_accepts : Told s (λ ts. Accepts (Spelled (whole g)) (TooDeepIn (whole g)) ts r)
-  flat_accepts ts is =
-      accepts (Spelled (whole g)) (TooDeepIn (whole g)) (flat_seen (whole g) one)
-      (flat_one_tree (whole g) one) (s.now ∷ ts) r (flat_answered ts is)
+  pub flat-accepts : Told s (λ ts. Accepts (Spelled (whole g)) (TooDeepIn (whole g)) ts r)
+  flat-accepts ts is =
+      accepts (Spelled (whole g)) (TooDeepIn (whole g)) (flat-seen (whole g) one)
+      (flat-one-tree (whole g) one) (s.now ∷ ts) r (flat-answered ts is)

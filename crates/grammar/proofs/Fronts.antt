@@ -26,40 +26,40 @@ ends P d f rest more vd vf bd bf e = go (split d rest f more e)
         (subst P (ap (λ w. w ++ vf.0) p ∙ append_assoc d (y ∷ k) vf.0) vf.1))
 
 -- a whole piece is viable
-whole_viable : {A : Type 0} (R : Tokens → A → Type 0) (d : Tokens) (a : A) → R d a
+whole-viable : {A : Type 0} (R : Tokens → A → Type 0) (d : Tokens) (a : A) → R d a
     → Viable (Some_of R) d
-whole_viable R d a r = ([], (a, subst (λ (w : Tokens). R w a) (sym (append-nil d)) r))
+whole-viable R d a r = ([], (a, subst (λ (w : Tokens). R w a) (sym (append-nil d)) r))
 
 module _ {A : Type 0} (R : Tokens → A → Type 0) (D : Lists) where
   -- two fronts of one list are one, with one tree
-  pub one_front : ((d : Tokens) (a b : A) → R d a → R d b → a ≡ b)
+  pub one-front : ((d : Tokens) (a b : A) → R d a → R d b → a ≡ b)
       → (ts : Tokens) (a b : A) (rest more : Tokens)
       → Front R D ts a rest → Front R D ts b more → (a ≡ b) × (rest ≡ more)
-  one_front one ts a b rest more x y =
-      let e = ends (Some_of R) x.front y.front rest more (whole_viable R x.front a x.tree)
-      (whole_viable R y.front b y.tree) x.barred y.barred (sym x.is ∙ y.is) in
+  one-front one ts a b rest more x y =
+      let e = ends (Some_of R) x.front y.front rest more (whole-viable R x.front a x.tree)
+      (whole-viable R y.front b y.tree) x.barred y.barred (sym x.is ∙ y.is) in
       (one y.front a b (subst (λ (w : Tokens). R w a) e.0 x.tree) y.tree, e.1)
 
   -- a list with a front is not refused
-  pub front_or_refused : (ts : Tokens) (a : A) (rest more : Tokens) → Front R D ts a rest
+  pub front-or-refused : (ts : Tokens) (a : A) (rest more : Tokens) → Front R D ts a rest
       → Refused R D ts more → ⊥
-  front_or_refused ts a rest more x y =
+  front-or-refused ts a rest more x y =
       let e = ends (Some_of R) x.front y.front rest more
-      (whole_viable R x.front a x.tree) y.viable x.barred y.barred (sym x.is ∙ y.is) in
+      (whole-viable R x.front a x.tree) y.viable x.barred y.barred (sym x.is ∙ y.is) in
       y.none (a, subst (λ (w : Tokens). R w a) e.0 x.tree)
 
   -- a list is refused at one place
-  pub refused_once : (ts rest more : Tokens) → Refused R D ts rest → Refused R D ts more
+  pub refused-once : (ts rest more : Tokens) → Refused R D ts rest → Refused R D ts more
       → rest ≡ more
-  refused_once ts rest more x y =
+  refused-once ts rest more x y =
       (ends (Some_of R) x.front y.front rest more x.viable y.viable x.barred y.barred
       (sym x.is ∙ y.is)).1
 
   module _ (seen : (p : Tokens) → D p → Viable (Some_of R) p) where
     -- what is too deep doesn't stand before a shallow end of what may come
-    no_deep_end : (ts d rest more : Tokens) → ts ≡ d ++ rest → Barred (Some_of R) d rest
+    no-deep-end : (ts d rest more : Tokens) → ts ≡ d ++ rest → Barred (Some_of R) d rest
         → Shallow D d → TooDeep D ts more → ⊥
-    no_deep_end ts d rest more is barred shallow y =
+    no-deep-end ts d rest more is barred shallow y =
         go (split d rest (y.front ++ y.next ∷ []) y.more all)
       where
         all : d ++ rest ≡ (y.front ++ y.next ∷ []) ++ y.more
@@ -79,17 +79,17 @@ module _ {A : Type 0} (R : Tokens → A → Type 0) (D : Lists) where
             (subst (Some_of R) (ap (λ w. w ++ v.0) p ∙ append_assoc d (t ∷ k) v.0) v.1)
 
     -- a list with a front is not too deep
-    pub front_or_deep : (ts : Tokens) (a : A) (rest more : Tokens) → Front R D ts a rest
+    pub front-or-deep : (ts : Tokens) (a : A) (rest more : Tokens) → Front R D ts a rest
         → TooDeep D ts more → ⊥
-    front_or_deep ts a rest more x y = no_deep_end ts x.front rest more x.is x.barred x.shallow y
+    front-or-deep ts a rest more x y = no-deep-end ts x.front rest more x.is x.barred x.shallow y
 
     -- a list that is refused is not too deep
-    pub refused_or_deep : (ts rest more : Tokens) → Refused R D ts rest → TooDeep D ts more → ⊥
-    refused_or_deep ts rest more x y = no_deep_end ts x.front rest more x.is x.barred x.shallow y
+    pub refused-or-deep : (ts rest more : Tokens) → Refused R D ts rest → TooDeep D ts more → ⊥
+    refused-or-deep ts rest more x y = no-deep-end ts x.front rest more x.is x.barred x.shallow y
 
   -- a list is too deep at one place
-  pub deep_once : (ts rest more : Tokens) → TooDeep D ts rest → TooDeep D ts more → rest ≡ more
-  deep_once ts rest more x y = go (split x.front rest y.front more (sym x.is ∙ y.is))
+  pub deep-once : (ts rest more : Tokens) → TooDeep D ts rest → TooDeep D ts more → rest ≡ more
+  deep-once ts rest more x y = go (split x.front rest y.front more (sym x.is ∙ y.is))
     where
       go : Split x.front rest y.front more → rest ≡ more
       go (same p q) = q
@@ -107,26 +107,26 @@ module _ {A : Type 0} (R : Tokens → A → Type 0) (D : Lists) where
 module _ {A : Type 0} (R : Tokens → A → Type 0) (D : Lists)
     (seen : (p : Tokens) → D p → Viable (Some_of R) p) (ts : Tokens) where
   -- tokens that have a front aren't refused
-  pub front_no_refusal : (a : A) (rest : Tokens) (place : ℕ) (code : SyntaxCode)
+  pub front-no-refusal : (a : A) (rest : Tokens) (place : ℕ) (code : SyntaxCode)
       → Front R D ts a rest → IsRefusal R D ts place code → ⊥
-  front_no_refusal a rest place code f (t, more, p, inl (x, k)) =
-      front_or_refused R D ts a rest (t ∷ more) f x
-  front_no_refusal a rest place code f (t, more, p, inr (x, k)) =
-      front_or_deep R D seen ts a rest (t ∷ more) f x
+  front-no-refusal a rest place code f (t, more, p, inl (x, k)) =
+      front-or-refused R D ts a rest (t ∷ more) f x
+  front-no-refusal a rest place code f (t, more, p, inr (x, k)) =
+      front-or-deep R D seen ts a rest (t ∷ more) f x
 
   heads : (t u : Token) (more rest : Tokens) → t ∷ more ≡ u ∷ rest → t ≡ u
   heads t u more rest e = cc
 
   -- tokens are refused at one place, with one code
-  pub one_refusal : (p q : ℕ) (c e : SyntaxCode) → IsRefusal R D ts p c → IsRefusal R D ts q e
+  pub one-refusal : (p q : ℕ) (c e : SyntaxCode) → IsRefusal R D ts p c → IsRefusal R D ts q e
       → (p ≡ q) × (c ≡ e)
-  one_refusal p q c e (t, more, at, inl (x, k)) (u, rest, at2, inl (y, k2)) =
-      let same = heads t u more rest (refused_once R D ts (t ∷ more) (u ∷ rest) x y) in
+  one-refusal p q c e (t, more, at, inl (x, k)) (u, rest, at2, inl (y, k2)) =
+      let same = heads t u more rest (refused-once R D ts (t ∷ more) (u ∷ rest) x y) in
       (at ∙ ap (λ z. z.place) same ∙ sym at2, k ∙ ap (λ z. code_by_class z.class) same ∙ sym k2)
-  one_refusal p q c e (t, more, at, inr (x, k)) (u, rest, at2, inr (y, k2)) =
-      let same = heads t u more rest (deep_once R D ts (t ∷ more) (u ∷ rest) x y) in
+  one-refusal p q c e (t, more, at, inr (x, k)) (u, rest, at2, inr (y, k2)) =
+      let same = heads t u more rest (deep-once R D ts (t ∷ more) (u ∷ rest) x y) in
       (at ∙ ap (λ z. z.place) same ∙ sym at2, k ∙ sym k2)
-  one_refusal p q c e (t, more, at, inl (x, k)) (u, rest, at2, inr (y, k2)) =
-      absurd (refused_or_deep R D seen ts (t ∷ more) (u ∷ rest) x y)
-  one_refusal p q c e (t, more, at, inr (x, k)) (u, rest, at2, inl (y, k2)) =
-      absurd (refused_or_deep R D seen ts (u ∷ rest) (t ∷ more) y x)
+  one-refusal p q c e (t, more, at, inl (x, k)) (u, rest, at2, inr (y, k2)) =
+      absurd (refused-or-deep R D seen ts (t ∷ more) (u ∷ rest) x y)
+  one-refusal p q c e (t, more, at, inr (x, k)) (u, rest, at2, inl (y, k2)) =
+      absurd (refused-or-deep R D seen ts (u ∷ rest) (t ∷ more) y x)

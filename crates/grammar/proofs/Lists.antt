@@ -11,8 +11,8 @@ use Rattle.grammar.specs.Looks.{any_of, passes}
 use Rattle.grammar.specs.Grammar.{G, nullable, starts}
 use Rattle.grammar.specs.Rules.{punct, ◌>>◌, list, more_of}
 use Rattle.grammar.specs.Ran.{Env, Reads}
-use Rattle.grammar.proofs.Repeats.{Fits, many_none, many_more, many_later, many_first}
-use Rattle.grammar.proofs.Runs.{at_ret, both_ok, both_first, both_second, left, right, no_memory}
+use Rattle.grammar.proofs.Repeats.{Fits, many-none, many-more, many-later, many-first}
+use Rattle.grammar.proofs.Runs.{at-ret, both-ok, both-first, both-second, left, right, no-memory}
 
 -- what comes of the rest, behind what was found, is what comes of the list
 pub record Lists {X : Type 0} {Sem : X → Type 0} {B : Type 0} (e : Env X Sem) (g : G X Sem B)
@@ -24,52 +24,52 @@ pub record Lists {X : Type 0} {Sem : X → Type 0} {B : Type 0} (e : Env X Sem) 
 
 module _ {X : Type 0} {Sem : X → Type 0} {B : Type 0} {e : Env X Sem} {g : G X Sem B} where
   -- no piece begins here
-  pub list_none : {s : Source} → nullable g ≡ false → starts e.begins g s.now ≡ false
+  pub list-none : {s : Source} → nullable g ≡ false → starts e.begins g s.now ≡ false
       → Reads e (list g) s (Ok []) s
-  list_none some begin = right (rw (begin, some) refl) at_ret
+  list-none some begin = right (rw (begin, some) refl) at-ret
 
   -- the first piece is refused
-  pub list_err : {why : SyntaxStop} {s0 s1 : Source} → starts e.begins g s0.now ≡ true
+  pub list-err : {why : SyntaxStop} {s0 s1 : Source} → starts e.begins g s0.now ≡ true
       → Reads e g s0 (Err why) s1 → Reads e (list g) s0 (Err why) s1
-  list_err begin x = left (rw begin refl) (both_first x)
+  list-err begin x = left (rw begin refl) (both-first x)
 
   -- behind the first piece
-  pub lists_first : {b : B} {s0 s1 : Source} → starts e.begins g s0.now ≡ true
+  pub lists-first : {b : B} {s0 s1 : Source} → starts e.begins g s0.now ≡ true
       → Reads e g s0 (Ok b) s1 → Lists e g (b ∷ []) s0 s1
-  lists_first begin x =
+  lists-first begin x =
       record {
-        ok = λ bs s2 y. left (rw begin refl) (both_ok x y);
-        err = λ why s2 y. left (rw begin refl) (both_second x y);
+        ok = λ bs s2 y. left (rw begin refl) (both-ok x y);
+        err = λ why s2 y. left (rw begin refl) (both-second x y);
       }
 
   -- a comma and one more
-  pub lists_on : {found : List B} {b : B} {s0 s1 s2 : Source} → Fits e
+  pub lists-on : {found : List B} {b : B} {s0 s1 s2 : Source} → Fits e
       → passes (any_of Comma) s1.now ≡ true
       → Lists e g found s0 s1 → Reads e (punct Comma >> g) s1 (Ok b) s2
       → Lists e g (found ++ b ∷ []) s0 s2
-  lists_on {found = found} {b = b} fit comma so x = record {
+  lists-on {found = found} {b = b} fit comma so x = record {
     ok = λ bs s3 y. rw (append_assoc found (b ∷ []) bs)
-        (so.ok (b ∷ bs) s3 (many_more fit refl (rw comma refl) x y));
-    err = λ why s3 y. so.err why s3 (many_later fit refl (rw comma refl) x y);
+        (so.ok (b ∷ bs) s3 (many-more fit refl (rw comma refl) x y));
+    err = λ why s3 y. so.err why s3 (many-later fit refl (rw comma refl) x y);
   }
 
   -- no comma follows
-  pub lists_end : {found : List B} {s0 s1 : Source} → passes (any_of Comma) s1.now ≡ false
+  pub lists-end : {found : List B} {s0 s1 : Source} → passes (any_of Comma) s1.now ≡ false
       → Lists e g found s0 s1 → Reads e (list g) s0 (Ok found) s1
-  lists_end {found = found} {s1 = s1} none so =
-      rw append-nil at (so.ok [] s1 (many_none (rw none refl)))
+  lists-end {found = found} {s1 = s1} none so =
+      rw append-nil at (so.ok [] s1 (many-none (rw none refl)))
 
   -- a comma, and a refusal behind it
-  pub lists_err : {found : List B} {why : SyntaxStop} {s0 s1 s2 : Source}
+  pub lists-err : {found : List B} {why : SyntaxStop} {s0 s1 s2 : Source}
       → passes (any_of Comma) s1.now ≡ true
       → Lists e g found s0 s1 → Reads e (punct Comma >> g) s1 (Err why) s2
       → Reads e (list g) s0 (Err why) s2
-  lists_err {why = why} {s2 = s2} comma so x = so.err why s2 (many_first (rw comma refl) x)
+  lists-err {why = why} {s2 = s2} comma so x = so.err why s2 (many-first (rw comma refl) x)
 
   -- memory ran out behind a piece
-  pub lists_memory : {found : List B} {b : B} {s0 s1 s2 : Source} → Fits e
+  pub lists-memory : {found : List B} {b : B} {s0 s1 s2 : Source} → Fits e
       → passes (any_of Comma) s1.now ≡ true
       → Lists e g found s0 s1 → Reads e (punct Comma >> g) s1 (Ok b) s2
       → Reads e (list g) s0 (Err OutOfMemory) s2
-  lists_memory {s2 = s2} fit comma so x =
-      so.err OutOfMemory s2 (many_later fit refl (rw comma refl) x no_memory)
+  lists-memory {s2 = s2} fit comma so x =
+      so.err OutOfMemory s2 (many-later fit refl (rw comma refl) x no-memory)

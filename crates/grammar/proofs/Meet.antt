@@ -16,114 +16,114 @@ use Rattle.ir_lexer.specs.Tokens.{Token}
 use Rattle.grammar.specs.Looks.{has_dot, all_digits, is_width, is_width_after, is_integer_word, is_among, Look, any_of, word, other_word, int_word, dotted, undotted, class_of, text_fits, passes, texts_meet, looks_meet, any, meets_one, any_meet, apart}
 
 -- both sides of a true `&&` are true
-pub and_true : (a b : Bool) → (a && b) ≡ true → (a ≡ true) × (b ≡ true)
-and_true true b e = (refl, e)
-and_true false b e = absurd (cc)
+pub and-true : (a b : Bool) → (a && b) ≡ true → (a ≡ true) × (b ≡ true)
+and-true true b e = (refl, e)
+and-true false b e = absurd (cc)
 
 -- one side of a true `||` is true
-pub or_true : (a b : Bool) → (a || b) ≡ true → (a ≡ true) ⊎ (b ≡ true)
-or_true true b e = inl refl
-or_true false b e = inr e
+pub or-true : (a b : Bool) → (a || b) ≡ true → (a ≡ true) ⊎ (b ≡ true)
+or-true true b e = inl refl
+or-true false b e = inr e
 
 -- a true second side makes `||` true
-pub true_or : (a b : Bool) → b ≡ true → (a || b) ≡ true
-true_or true b e = refl
-true_or false b e = e
+pub true-or : (a b : Bool) → b ≡ true → (a || b) ≡ true
+true-or true b e = refl
+true-or false b e = e
 
 -- a true first side makes `||` true
-pub or_first : (a b : Bool) → a ≡ true → (a || b) ≡ true
-or_first a b e = rw e refl
+pub or-first : (a b : Bool) → a ≡ true → (a || b) ≡ true
+or-first a b e = rw e refl
 
 -- a true `not` is of what is false
-pub not_true : (a : Bool) → not a ≡ true → a ≡ false
-not_true true e = absurd (cc)
-not_true false e = refl
+pub not-true : (a : Bool) → not a ≡ true → a ≡ false
+not-true true e = absurd (cc)
+not-true false e = refl
 
 -- from a true `not a || b`, where a is true, b is
-pub not_or : (a b : Bool) → (not a || b) ≡ true → a ≡ true → b ≡ true
-not_or true b e h = e
-not_or false b e h = absurd (cc)
+pub not-or : (a b : Bool) → (not a || b) ≡ true → a ≡ true → b ≡ true
+not-or true b e h = e
+not-or false b e h = absurd (cc)
 
 -- what is false is not true
-pub no_true : (a : Bool) → not a ≡ true → a ≡ true → ⊥
-no_true true e h = absurd (cc)
-no_true false e h = absurd (cc)
+pub no-true : (a : Bool) → not a ≡ true → a ≡ true → ⊥
+no-true true e h = absurd (cc)
+no-true false e h = absurd (cc)
 
-or_false : (a b : Bool) → (a || b) ≡ false → (a ≡ false) × (b ≡ false)
-or_false true b e = absurd (cc)
-or_false false b e = (refl, e)
+or-false : (a b : Bool) → (a || b) ≡ false → (a ≡ false) × (b ≡ false)
+or-false true b e = absurd (cc)
+or-false false b e = (refl, e)
 
 -- texts that compare as equal are one
-pub same_text : (v w : Text) → bytes_eq v w ≡ true → v ≡ w
-same_text v w e = (bytes_eq-Decides v w).0 e
+pub same-text : (v w : Text) → bytes_eq v w ≡ true → v ≡ w
+same-text v w e = (bytes_eq-Decides v w).0 e
 
 -- a text compares as equal with itself
-pub text_same : (w : Text) → bytes_eq w w ≡ true
-text_same w = (bytes_eq-Decides w w).1 refl
+pub text-same : (w : Text) → bytes_eq w w ≡ true
+text-same w = (bytes_eq-Decides w w).1 refl
 
 -- digits have no dot
-digits_no_dot : (w : Text) → all_digits w ≡ true → has_dot w ≡ false
-digits_no_dot [] e = refl
-digits_no_dot (b ∷ w) e =
-    let p = and_true _ (all_digits w) e in
-    let h = digits_no_dot w p.1 in rw h grind arith
+digits-no-dot : (w : Text) → all_digits w ≡ true → has_dot w ≡ false
+digits-no-dot [] e = refl
+digits-no-dot (b ∷ w) e =
+    let p = and-true _ (all_digits w) e in
+    let h = digits-no-dot w p.1 in rw h grind arith
 
 -- nor have two texts without one, put together
-no_dot_append : (v w : Text) → has_dot v ≡ false → has_dot w ≡ false → has_dot (v ++ w) ≡ false
-no_dot_append [] w p q = q
-no_dot_append (b ∷ v) w p q = let u = or_false (b == 46) (has_dot v) p in
-    let later = no_dot_append v w u.1 q in rw (u.0, later) refl
+no-dot-append : (v w : Text) → has_dot v ≡ false → has_dot w ≡ false → has_dot (v ++ w) ≡ false
+no-dot-append [] w p q = q
+no-dot-append (b ∷ v) w p q = let u = or-false (b == 46) (has_dot v) p in
+    let later = no-dot-append v w u.1 q in rw (u.0, later) refl
 
 -- a width has no dot
-width_no_dot : (w : Text) → is_width w ≡ true → has_dot w ≡ false
-width_no_dot [] e = refl
-width_no_dot (b ∷ w) e =
-    digits_no_dot (b ∷ w) (and_true (all_digits (b ∷ w)) _ (and_true (not (b == 48)) _ e).1).0
+width-no-dot : (w : Text) → is_width w ≡ true → has_dot w ≡ false
+width-no-dot [] e = refl
+width-no-dot (b ∷ w) e =
+    digits-no-dot (b ∷ w) (and-true (all_digits (b ∷ w)) _ (and-true (not (b == 48)) _ e).1).0
 
 -- nor has a prefix without one and a width
-digits_after : (prefix w : Text) → has_dot prefix ≡ false → is_width_after prefix w ≡ true
+digits-after : (prefix w : Text) → has_dot prefix ≡ false → is_width_after prefix w ≡ true
     → has_dot w ≡ false
-digits_after prefix w none e =
-    let p = and_true (bytes_eq (take (length prefix) w) prefix) _ e in
-    let front : take (length prefix) w ≡ prefix = same_text (take (length prefix) w) prefix p.0 in
+digits-after prefix w none e =
+    let p = and-true (bytes_eq (take (length prefix) w) prefix) _ e in
+    let front : take (length prefix) w ≡ prefix = same-text (take (length prefix) w) prefix p.0 in
     let parts = take-append-drop (length prefix) w in
     rw (sym parts)
-    (no_dot_append (take (length prefix) w) (drop (length prefix) w) (rw front none)
-    (width_no_dot (drop (length prefix) w) p.1))
+    (no-dot-append (take (length prefix) w) (drop (length prefix) w) (rw front none)
+    (width-no-dot (drop (length prefix) w) p.1))
 
 -- the name of an integer type has no dot
-int_no_dot : (w : Text) → is_integer_word w ≡ true → has_dot w ≡ false
-int_no_dot w e = go (or_true (is_width_after (codes "i") w) _ e)
+int-no-dot : (w : Text) → is_integer_word w ≡ true → has_dot w ≡ false
+int-no-dot w e = go (or-true (is_width_after (codes "i") w) _ e)
   where
     others : (is_width_after (codes "si") w ≡ true) ⊎ (is_width_after (codes "ui") w ≡ true)
         → has_dot w ≡ false
-    others (inl h) = digits_after (codes "si") w refl h
-    others (inr h) = digits_after (codes "ui") w refl h
+    others (inl h) = digits-after (codes "si") w refl h
+    others (inr h) = digits-after (codes "ui") w refl h
 
     go : (is_width_after (codes "i") w ≡ true)
         ⊎ ((is_width_after (codes "si") w || is_width_after (codes "ui") w) ≡ true)
         → has_dot w ≡ false
-    go (inl h) = digits_after (codes "i") w refl h
-    go (inr h) = others (or_true (is_width_after (codes "si") w) _ h)
+    go (inl h) = digits-after (codes "i") w refl h
+    go (inr h) = others (or-true (is_width_after (codes "si") w) _ h)
 
 along : (q : Look) (v w : Text) → bytes_eq w v ≡ true → text_fits q w ≡ true → text_fits q v ≡ true
-along q v w e y = subst (λ (u : Text). text_fits q u ≡ true) (same_text w v e) y
+along q v w e y = subst (λ (u : Text). text_fits q u ≡ true) (same-text w v e) y
 
 -- demands on a text that one text fits meet
-both_fit : (p q : Look) (w : Text) → text_fits p w ≡ true → text_fits q w ≡ true
+both-fit : (p q : Look) (w : Text) → text_fits p w ≡ true → text_fits q w ≡ true
     → texts_meet p q ≡ true
-both_fit (word v) q w x y = along q v w x y
-both_fit p (word v) w x y = along p v w y x
-both_fit int_word (dotted c) w x y = absurd (cc (int_no_dot w x, y))
-both_fit (dotted c) int_word w x y = absurd (cc (int_no_dot w y, x))
-both_fit (dotted c) (undotted d) w x y = absurd (no_true (has_dot w) y x)
-both_fit (undotted c) (dotted d) w x y = absurd (no_true (has_dot w) x y)
-both_fit p q w x y = refl
+both-fit (word v) q w x y = along q v w x y
+both-fit p (word v) w x y = along p v w y x
+both-fit int_word (dotted c) w x y = absurd (cc (int-no-dot w x, y))
+both-fit (dotted c) int_word w x y = absurd (cc (int-no-dot w y, x))
+both-fit (dotted c) (undotted d) w x y = absurd (no-true (has_dot w) y x)
+both-fit (undotted c) (dotted d) w x y = absurd (no-true (has_dot w) x y)
+both-fit p q w x y = refl
 
 -- a class is the same as itself
-same_self : (c : Class) → same_class c c ≡ true
+same-self : (c : Class) → same_class c c ≡ true
 unfolding same_class
-same_self c = true_same the_type c c refl
+same-self c = true_same the_type c c refl
 
 -- classes that are the same as one are the same
 classes : (a b c : Class) → same_class a b ≡ true → same_class a c ≡ true → same_class b c ≡ true
@@ -133,56 +133,56 @@ classes a b c x y = subst (λ (d : Class). same_class d c ≡ true) (same_true t
 -- looks that one token passes meet
 pub meet : (p q : Look) (t : Token) → passes p t ≡ true → passes q t ≡ true → looks_meet p q ≡ true
 meet p q t x y =
-    let u = and_true (same_class t.class (class_of p)) (text_fits p t.text) x in
-    let v = and_true (same_class t.class (class_of q)) (text_fits q t.text) y in
+    let u = and-true (same_class t.class (class_of p)) (text_fits p t.text) x in
+    let v = and-true (same_class t.class (class_of q)) (text_fits q t.text) y in
     let a = classes t.class (class_of p) (class_of q) u.0 v.0 in
-    let b = both_fit p q t.text u.1 v.1 in rw (a, b) refl
+    let b = both-fit p q t.text u.1 v.1 in rw (a, b) refl
 
 -- a token that passes a look has its class
-pub passes_class : (l : Look) (t : Token) → passes l t ≡ true → t.class ≡ class_of l
+pub passes-class : (l : Look) (t : Token) → passes l t ≡ true → t.class ≡ class_of l
 unfolding same_class
-passes_class l t e =
+passes-class l t e =
     same_true the_type tt t.class (class_of l)
-    (and_true (same_class t.class (class_of l)) (text_fits l t.text) e).0
+    (and-true (same_class t.class (class_of l)) (text_fits l t.text) e).0
 
 -- a token that passes a look of another class isn't the end
-pub before_end : (l : Look) (t : Token) → passes l t ≡ true → class_of l ≢ End → t.class ≢ End
-before_end l t e other h = other (sym (passes_class l t e) ∙ h)
+pub before-end : (l : Look) (t : Token) → passes l t ≡ true → class_of l ≢ End → t.class ≢ End
+before-end l t e other h = other (sym (passes-class l t e) ∙ h)
 
 -- a word is not the end
-pub word_before_end : Word ≢ End
-word_before_end e = cc
+pub word-before-end : Word ≢ End
+word-before-end e = cc
 
-meets_in : (p : Look) (qs : List Look) (t : Token) → passes p t ≡ true → any qs t ≡ true
+meets-in : (p : Look) (qs : List Look) (t : Token) → passes p t ≡ true → any qs t ≡ true
     → meets_one p qs ≡ true
-meets_in p [] t x y = absurd (cc)
-meets_in p (q ∷ qs) t x y = go (or_true (passes q t) (any qs t) y) (meets_in p qs t x)
+meets-in p [] t x y = absurd (cc)
+meets-in p (q ∷ qs) t x y = go (or-true (passes q t) (any qs t) y) (meets-in p qs t x)
   where
     go : (passes q t ≡ true) ⊎ (any qs t ≡ true) → (any qs t ≡ true → meets_one p qs ≡ true)
         → (looks_meet p q || meets_one p qs) ≡ true
-    go (inl h) again = or_first (looks_meet p q) (meets_one p qs) (meet p q t x h)
-    go (inr h) again = true_or (looks_meet p q) (meets_one p qs) (again h)
+    go (inl h) again = or-first (looks_meet p q) (meets_one p qs) (meet p q t x h)
+    go (inr h) again = true-or (looks_meet p q) (meets_one p qs) (again h)
 
 -- lists of looks that one token passes meet
-pub any_meets : (ps qs : List Look) (t : Token) → any ps t ≡ true → any qs t ≡ true
+pub any-meets : (ps qs : List Look) (t : Token) → any ps t ≡ true → any qs t ≡ true
     → any_meet ps qs ≡ true
-any_meets [] qs t x y = absurd (cc)
-any_meets (p ∷ ps) qs t x y = go (or_true (passes p t) (any ps t) x) (λ h. any_meets ps qs t h y)
+any-meets [] qs t x y = absurd (cc)
+any-meets (p ∷ ps) qs t x y = go (or-true (passes p t) (any ps t) x) (λ h. any-meets ps qs t h y)
   where
     go : (passes p t ≡ true) ⊎ (any ps t ≡ true) → (any ps t ≡ true → any_meet ps qs ≡ true)
         → (meets_one p qs || any_meet ps qs) ≡ true
-    go (inl h) again = or_first (meets_one p qs) (any_meet ps qs) (meets_in p qs t h y)
-    go (inr h) again = true_or (meets_one p qs) (any_meet ps qs) (again h)
+    go (inl h) again = or-first (meets_one p qs) (any_meet ps qs) (meets-in p qs t h y)
+    go (inr h) again = true-or (meets_one p qs) (any_meet ps qs) (again h)
 
 -- no token passes two lists that are apart
-pub apart_sound : (ps qs : List Look) → apart ps qs ≡ true → (t : Token) → any ps t ≡ true
+pub apart-sound : (ps qs : List Look) → apart ps qs ≡ true → (t : Token) → any ps t ≡ true
     → any qs t ≡ true → ⊥
-apart_sound ps qs e t x y = no_true (any_meet ps qs) e (any_meets ps qs t x y)
+apart-sound ps qs e t x y = no-true (any_meet ps qs) e (any-meets ps qs t x y)
 
 -- one of two lists put together is passed where one of either is
-pub any_append : (ps qs : List Look) (t : Token) → any (ps ++ qs) t ≡ (any ps t || any qs t)
-any_append [] qs t = refl
-any_append (p ∷ ps) qs t = go (passes p t) (any_append ps qs t)
+pub any-append : (ps qs : List Look) (t : Token) → any (ps ++ qs) t ≡ (any ps t || any qs t)
+any-append [] qs t = refl
+any-append (p ∷ ps) qs t = go (passes p t) (any-append ps qs t)
   where
     go : (b : Bool) → any (ps ++ qs) t ≡ (any ps t || any qs t)
         → (b || any (ps ++ qs) t) ≡ ((b || any ps t) || any qs t)
@@ -190,12 +190,12 @@ any_append (p ∷ ps) qs t = go (passes p t) (any_append ps qs t)
     go false h = h
 
 -- what passes the first list passes both together
-pub in_left : (ps qs : List Look) (t : Token) → any ps t ≡ true → any (ps ++ qs) t ≡ true
-in_left ps qs t x = any_append ps qs t ∙ or_first (any ps t) (any qs t) x
+pub in-left : (ps qs : List Look) (t : Token) → any ps t ≡ true → any (ps ++ qs) t ≡ true
+in-left ps qs t x = any-append ps qs t ∙ or-first (any ps t) (any qs t) x
 
 -- what passes the second list passes both together
-pub in_right : (ps qs : List Look) (t : Token) → any qs t ≡ true → any (ps ++ qs) t ≡ true
-in_right ps qs t x = any_append ps qs t ∙ true_or (any ps t) (any qs t) x
+pub in-right : (ps qs : List Look) (t : Token) → any qs t ≡ true → any (ps ++ qs) t ≡ true
+in-right ps qs t x = any-append ps qs t ∙ true-or (any ps t) (any qs t) x
 
 -- ---- each look passes some token
 
@@ -214,42 +214,42 @@ unfolding zeros
 zeros-length zero = refl
 zeros-length (suc n) = ap (λ k. suc k) (zeros-length n)
 
-shorter_differs : (t w : Text) (b : Bool) → bytes_eq t w ≡ b → length w < length t → b ≡ false
-shorter_differs t w true e less = let same = ap length (same_text t w e) in absurd (omega arith)
-shorter_differs t w false e less = refl
+shorter-differs : (t w : Text) (b : Bool) → bytes_eq t w ≡ b → length w < length t → b ≡ false
+shorter-differs t w true e less = let same = ap length (same-text t w e) in absurd (omega arith)
+shorter-differs t w false e less = refl
 
-longer_is_none : (ws : List Text) (t : Text) → total ws < length t → is_among ws t ≡ false
+longer-is-none : (ws : List Text) (t : Text) → total ws < length t → is_among ws t ≡ false
 unfolding total
-longer_is_none [] t less = refl
-longer_is_none (w ∷ ws) t less =
-    let one = shorter_differs t w (bytes_eq t w) refl (omega arith) in
-    let others = longer_is_none ws t (omega arith) in rw (one, others) refl
+longer-is-none [] t less = refl
+longer-is-none (w ∷ ws) t less =
+    let one = shorter-differs t w (bytes_eq t w) refl (omega arith) in
+    let others = longer-is-none ws t (omega arith) in rw (one, others) refl
 
 -- a text that is none of these
 another : List Text → Text
 another ws = zeros (suc (total ws))
 
-another_is_none : (ws : List Text) → not (is_among ws (another ws)) ≡ true
+another-is-none : (ws : List Text) → not (is_among ws (another ws)) ≡ true
 unfolding another
-another_is_none ws =
-    rw (longer_is_none ws (zeros (suc (total ws)))
+another-is-none ws =
+    rw (longer-is-none ws (zeros (suc (total ws)))
     (rw (zeros-length (suc (total ws))) (omega arith))) refl
 
 -- a token that passes a look
-pub a_token : Look → Token
-a_token (any_of c) = record { class = c; text = []; place = 0 }
-a_token (word w) = record { class = Word; text = w; place = 0 }
-a_token (other_word ws) = record { class = Word; text = another ws; place = 0 }
-a_token int_word = record { class = Word; text = codes "i1"; place = 0 }
-a_token (dotted c) = record { class = c; text = 46 ∷ []; place = 0 }
-a_token (undotted c) = record { class = c; text = []; place = 0 }
+pub a-token : Look → Token
+a-token (any_of c) = record { class = c; text = []; place = 0 }
+a-token (word w) = record { class = Word; text = w; place = 0 }
+a-token (other_word ws) = record { class = Word; text = another ws; place = 0 }
+a-token int_word = record { class = Word; text = codes "i1"; place = 0 }
+a-token (dotted c) = record { class = c; text = 46 ∷ []; place = 0 }
+a-token (undotted c) = record { class = c; text = []; place = 0 }
 
 -- that token passes the look
-pub passes_some : (l : Look) → passes l (a_token l) ≡ true
-unfolding a_token
-passes_some (any_of c) = rw (same_self c) refl
-passes_some (word w) = rw (same_self Word) (text_same w)
-passes_some (other_word ws) = rw (same_self Word) (another_is_none ws)
-passes_some int_word = rw (same_self Word) refl
-passes_some (dotted c) = rw (same_self c) refl
-passes_some (undotted c) = rw (same_self c) refl
+pub passes-some : (l : Look) → passes l (a-token l) ≡ true
+unfolding a-token
+passes-some (any_of c) = rw (same-self c) refl
+passes-some (word w) = rw (same-self Word) (text-same w)
+passes-some (other_word ws) = rw (same-self Word) (another-is-none ws)
+passes-some int_word = rw (same-self Word) refl
+passes-some (dotted c) = rw (same-self c) refl
+passes-some (undotted c) = rw (same-self c) refl

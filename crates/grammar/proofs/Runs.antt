@@ -4,11 +4,11 @@
 -- step of a rule: from what the parts' calls did to what the call for the whole did. So the answer
 -- of each exit of a function repeats the path through its rule:
 --
---   both_first, both_second, both_ok   of two pieces: stopped in the first, in the second, or read
+--   both-first, both-second, both-ok   of two pieces: stopped in the first, in the second, or read
 --   left, right                        of a choice, by the present token
---   made_ok, made_err                  of a piece that stands for something else
---   at_tok                             a token
---   took_token, took_refused, ..       one token, by the test and the step
+--   made-ok, made-err                  of a piece that stands for something else
+--   at-tok                             a token
+--   took-token, took-refused, ..       one token, by the test and the step
 --   exit                               what the exit of a `?` hands on
 use Rattle.std.proofs.Common.{◌≡◌, ◌≢◌, ℕ, ◌+◌, ◌≤◌, ◌<◌, Bool, true, false, ◌&&◌, ◌||◌, List, [], ◌∷◌, Some, Result, Ok, Err, OnOk, if◌then◌else◌, arith, refl, sym, ap}
 use Rattle.std.specs.Result.{IsErr, IsErrAnd}
@@ -22,8 +22,8 @@ use Rattle.grammar.specs.declared.stop.SyntaxStop.{SyntaxStop}
 use Rattle.grammar.specs.declared.stop.SyntaxStop.TheVariants.{At, Failed, OutOfMemory}
 use Rattle.grammar.specs.Looks.{Look, passes}
 use Rattle.grammar.specs.Grammar.{Tokens, Parser, Outcome, done, stop, and_then, ◌>>=◌, pure, read_tok, G, ret, tok, both, alt, made, placed, nullable, starts}
-use Rattle.grammar.specs.Ran.{Ran, Gives, HasCause, GoesOn, handed_on, code_by_class, Env, reads_in, size, Took, Reads, RefusesBy}
-use Rattle.grammar.proofs.Kept.{kept_same, kept_then, kept_err, kept_ok, any_failed, any_memory}
+use Rattle.grammar.specs.Ran.{Ran, Gives, CallHasCause, GoesOn, handed_on, code_by_class, Env, reads_in, size, Took, Reads, RefusesBy}
+use Rattle.grammar.proofs.Kept.{kept-same, kept-then, kept-err, kept-ok, any-failed, any-memory}
 
 -- ---- want of memory
 
@@ -34,16 +34,16 @@ memory k p s =
       kept =
           record { faults = omega arith; cause = tt; origin = refl; steady = λ h. h; goes_on = tt };
       less = tt;
-      told = λ ts _. any_memory _ s;
+      told = λ ts _. any-memory _ s;
     }
 
 -- ---- one token
 
 -- the present token fails the test and is refused
-pub tok_refused : {A : Type 0} (test : Token → Bool) (f : Token → A) (s : Source) (e : SyntaxStop)
+pub tok-refused : {A : Type 0} (test : Token → Bool) (f : Token → A) (s : Source) (e : SyntaxStop)
     → test s.now ≡ false → e ≡ At s.now.place (code_by_class s.now.class)
     → Ran 1 (read_tok false test f) s (Err e) s
-tok_refused test f s e h is = rw is (record {
+tok-refused test f s e h is = rw is (record {
   kept = record {
     faults = omega arith;
     cause = tt;
@@ -56,20 +56,20 @@ tok_refused test f s e h is = rw is (record {
 })
 
 -- behind the token the source stands before the next one
-tok_stands : {A : Type 0} (test : Token → Bool) (f : Token → A) (s s' : Source) (ts : Tokens)
+tok-stands : {A : Type 0} (test : Token → Bool) (f : Token → A) (s s' : Source) (ts : Tokens)
     → test s.now ≡ true → (s.later ≡ Some [] → s.now.class ≡ class.End) → s.now.class ≢ class.End
     → ((t : Token) (more : List Token) → s.later ≡ Some (t ∷ more)
     → (s'.now ≡ t) × (s'.later ≡ Some more))
     → s.later ≡ Some ts → Gives (read_tok false test f (s.now ∷ ts)) (Ok (f s.now)) s'
-tok_stands test f s s' [] h ends other told is = absurd (other (ends is))
-tok_stands test f s s' (t ∷ ts) h ends other told is = rw h (refl, told t ts is)
+tok-stands test f s s' [] h ends other told is = absurd (other (ends is))
+tok-stands test f s s' (t ∷ ts) h ends other told is = rw h (refl, told t ts is)
 
 -- the present token passes the test and is taken
-pub tok_taken : {A : Type 0} (test : Token → Bool) (f : Token → A) (s s' : Source) (u : Unit {0})
+pub tok-taken : {A : Type 0} (test : Token → Bool) (f : Token → A) (s s' : Source) (u : Unit {0})
     → test s.now ≡ true → (s.later ≡ Some [] → s.now.class ≡ class.End) → s.now.class ≢ class.End
     → Advances s (Ok u) s'
     → Ran 1 (read_tok false test f) s (Ok (f s.now)) s'
-tok_taken test f s s' u h ends other a = record {
+tok-taken test f s s' u h ends other a = record {
   kept = record {
     faults = a.faults;
     cause = tt;
@@ -78,92 +78,92 @@ tok_taken test f s s' u h ends other a = record {
     goes_on = a.goes_on;
   };
   less = let l : s'.left < s.left = (a.less other).0 in omega arith;
-  told = λ ts is. tok_stands test f s s' ts h ends other a.told is;
+  told = λ ts is. tok-stands test f s s' ts h ends other a.told is;
 }
 
 -- a step that failed has its cause
-failed_cause : (A : Type 0) (s s' : Source) (x : TokenStop) → Advances s (Err x) s'
-    → HasCause {A = A} (Err (handed_on x)) s s'
-failed_cause A s s' source.Failed a = a.cause
-failed_cause A s s' source.OutOfMemory a = tt
+failed-cause : (A : Type 0) (s s' : Source) (x : TokenStop) → Advances s (Err x) s'
+    → CallHasCause {A = A} (Err (handed_on x)) s s'
+failed-cause A s s' source.Failed a = a.cause
+failed-cause A s s' source.OutOfMemory a = tt
 
-failed_goes_on : (A : Type 0) (s s' : Source) (x : TokenStop)
+failed-goes-on : (A : Type 0) (s s' : Source) (x : TokenStop)
     → GoesOn {A = A} (Err (handed_on x)) s s'
-failed_goes_on A s s' source.Failed = tt
-failed_goes_on A s s' source.OutOfMemory = tt
+failed-goes-on A s s' source.Failed = tt
+failed-goes-on A s s' source.OutOfMemory = tt
 
 -- and says nothing of the tokens
-failed_told : {A : Type 0} (o : Outcome A) (s : Source) (x : TokenStop)
+failed-told : {A : Type 0} (o : Outcome A) (s : Source) (x : TokenStop)
     → Gives o (Err (handed_on x)) s
-failed_told o s source.Failed = any_failed o s
-failed_told o s source.OutOfMemory = any_memory o s
+failed-told o s source.Failed = any-failed o s
+failed-told o s source.OutOfMemory = any-memory o s
 
 -- a step that failed
-pub failed_with : {A : Type 0} (k : ℕ) (p : Parser A) (s s' : Source) (x : TokenStop)
+pub failed-with : {A : Type 0} (k : ℕ) (p : Parser A) (s s' : Source) (x : TokenStop)
     → Advances s (Err x) s' → Ran k p s (Err (handed_on x)) s'
-failed_with {A = A} k p s s' x a = record {
+failed-with {A = A} k p s s' x a = record {
   kept = record {
     faults = a.faults;
-    cause = failed_cause A s s' x a;
+    cause = failed-cause A s s' x a;
     origin = a.origin;
     steady = a.steady;
-    goes_on = failed_goes_on A s s' x;
+    goes_on = failed-goes-on A s s' x;
   };
   less = tt;
-  told = λ ts _. failed_told _ s' x;
+  told = λ ts _. failed-told _ s' x;
 }
 
 -- ---- steps
 
 -- the tokens before which a source that told its tokens stands
-next_told : {A B : Type 0} (o : Outcome A) (k : A → Parser B) (a : A) (s1 s2 : Source)
+next-told : {A B : Type 0} (o : Outcome A) (k : A → Parser B) (a : A) (s1 s2 : Source)
     (r : Result B SyntaxStop)
     → Gives o (Ok a) s1 → ((ts : Tokens) → s1.later ≡ Some ts → Gives (k a (s1.now ∷ ts)) r s2)
     → Gives (and_then o k) r s2
-next_told (done b []) k a s1 s2 r g h = absurd g.1
-next_told (done b (t ∷ ts)) k a s1 s2 r g h = rw (sym g.0, sym g.1.0) (h ts g.1.1)
-next_told (stop d ts) k a s1 s2 r g h = absurd g
+next-told (done b []) k a s1 s2 r g h = absurd g.1
+next-told (done b (t ∷ ts)) k a s1 s2 r g h = rw (sym g.0, sym g.1.0) (h ts g.1.1)
+next-told (stop d ts) k a s1 s2 r g h = absurd g
 
 -- what two steps took together
-less_then : {B : Type 0} (r : Result B SyntaxStop) (k m n a b c : ℕ) → n ≤ k + m → k + b ≤ a
+less-then : {B : Type 0} (r : Result B SyntaxStop) (k m n a b c : ℕ) → n ≤ k + m → k + b ≤ a
     → OnOk r (m + c ≤ b) → OnOk r (n + c ≤ a)
-less_then (Ok x) k m n a b c few p q = omega arith
-less_then (Err e) k m n a b c few p q = tt
+less-then (Ok x) k m n a b c few p q = omega arith
+less-then (Err e) k m n a b c few p q = tt
 
 -- a step, and then the rest
-pub bind_ok : {A B : Type 0} (k m n : ℕ) (p : Parser A) (f : A → Parser B) (a : A)
+pub bind-ok : {A B : Type 0} (k m n : ℕ) (p : Parser A) (f : A → Parser B) (a : A)
     (s0 s1 s2 : Source) (r : Result B SyntaxStop)
     → n ≤ k + m → Ran k p s0 (Ok a) s1 → Ran m (f a) s1 r s2 → Ran n (p >>= f) s0 r s2
-bind_ok k m n p f a s0 s1 s2 r few x y = record {
-  kept = kept_then x.kept y.kept;
-  less = less_then r k m n s0.left s1.left s2.left few x.less y.less;
-  told = λ ts is. next_told (p (s0.now ∷ ts)) f a s1 s2 r (x.told ts is) y.told;
+bind-ok k m n p f a s0 s1 s2 r few x y = record {
+  kept = kept-then x.kept y.kept;
+  less = less-then r k m n s0.left s1.left s2.left few x.less y.less;
+  told = λ ts is. next-told (p (s0.now ∷ ts)) f a s1 s2 r (x.told ts is) y.told;
 }
 
 -- what the reader of a part refuses, the reader of the whole does
-pub err_told : {A B : Type 0} (o : Outcome A) (k : A → Parser B) (e : SyntaxStop) (s : Source)
+pub err-told : {A B : Type 0} (o : Outcome A) (k : A → Parser B) (e : SyntaxStop) (s : Source)
     → Gives o (Err e) s → Gives (and_then o k) (Err e) s
-err_told (done a ts) k (At place c) s g = absurd g
-err_told (done a ts) k Failed s g = any_failed (k a ts) s
-err_told (done a ts) k OutOfMemory s g = any_memory (k a ts) s
-err_told (stop d ts) k (At place c) s g = g
-err_told (stop d ts) k Failed s g = tt
-err_told (stop d ts) k OutOfMemory s g = tt
+err-told (done a ts) k (At place c) s g = absurd g
+err-told (done a ts) k Failed s g = any-failed (k a ts) s
+err-told (done a ts) k OutOfMemory s g = any-memory (k a ts) s
+err-told (stop d ts) k (At place c) s g = g
+err-told (stop d ts) k Failed s g = tt
+err-told (stop d ts) k OutOfMemory s g = tt
 
 -- a step that did not go well
-pub bind_err : {A B : Type 0} (k n : ℕ) (p : Parser A) (f : A → Parser B) (e : SyntaxStop)
+pub bind-err : {A B : Type 0} (k n : ℕ) (p : Parser A) (f : A → Parser B) (e : SyntaxStop)
     (s0 s1 : Source)
     → Ran k p s0 (Err e) s1 → Ran n (p >>= f) s0 (Err e) s1
-bind_err k n p f e s0 s1 x = record {
-  kept = kept_err x.kept;
+bind-err k n p f e s0 s1 x = record {
+  kept = kept-err x.kept;
   less = tt;
-  told = λ ts is. err_told (p (s0.now ∷ ts)) f e s1 (x.told ts is);
+  told = λ ts is. err-told (p (s0.now ∷ ts)) f e s1 (x.told ts is);
 }
 
 -- no step
-pub pure_ran : {A : Type 0} (a : A) (s : Source) → Ran 0 (pure a) s (Ok a) s
-pure_ran a s =
-    record { kept = kept_same a s; less = omega arith; told = λ ts is. (refl, (refl, is)) }
+pub pure-ran : {A : Type 0} (a : A) (s : Source) → Ran 0 (pure a) s (Ok a) s
+pure-ran a s =
+    record { kept = kept-same a s; less = omega arith; told = λ ts is. (refl, (refl, is)) }
 
 -- ---- exits
 
@@ -174,73 +174,73 @@ pub exit : {X : Type 0} {Sem : X → Type 0} {A : Type 0} {e : Env X Sem} {g : G
 exit {r = r} h q = let e = err_from_is_err_and r h.1 in rw (e.1, e.2) q
 
 -- what the exit of a `?` answers, of one token
-pub took_exit : {A : Type 0} {test : Token → Bool} {f : Token → A} {s s' : Source} {x : SyntaxStop}
+pub took-exit : {A : Type 0} {test : Token → Bool} {f : Token → A} {s s' : Source} {x : SyntaxStop}
     {r : Result A SyntaxStop}
     → IsErr r × IsErrAnd r (λ e. e ≡ x) → Took test f s (Err x) s' → Took test f s r s'
-took_exit {r = r} h q = let e = err_from_is_err_and r h.1 in rw (e.1, e.2) q
+took-exit {r = r} h q = let e = err_from_is_err_and r h.1 in rw (e.1, e.2) q
 
 -- ---- a token that stands for something else
 
 -- what is answered of a token does not depend on what it stands for
-tok_other : {A B : Type 0} (c : Bool) (a : A) (b : B) (t : Token) (ts : Tokens)
+tok-other : {A B : Type 0} (c : Bool) (a : A) (b : B) (t : Token) (ts : Tokens)
     (r : Result A SyntaxStop) (q : Result B SyntaxStop) (s : Source)
     → ((x : A) → r ≡ Ok x → q ≡ Ok b) → ((e : SyntaxStop) → r ≡ Err e → q ≡ Err e)
     → Gives (if c then done a ts else stop false (t ∷ ts)) r s
     → Gives (if c then done b ts else stop false (t ∷ ts)) q s
-tok_other true a b t ts (Ok x) q s ok err g = rw (ok x refl) (refl, g.1)
-tok_other true a b t ts (Err (At p k)) q s ok err g = absurd g
-tok_other true a b t ts (Err Failed) q s ok err g = rw (err Failed refl) tt
-tok_other true a b t ts (Err OutOfMemory) q s ok err g = rw (err OutOfMemory refl) tt
-tok_other false a b t ts (Ok x) q s ok err g = absurd g
-tok_other false a b t ts (Err (At p k)) q s ok err g = rw (err (At p k) refl) g
-tok_other false a b t ts (Err Failed) q s ok err g = rw (err Failed refl) tt
-tok_other false a b t ts (Err OutOfMemory) q s ok err g = rw (err OutOfMemory refl) tt
+tok-other true a b t ts (Ok x) q s ok err g = rw (ok x refl) (refl, g.1)
+tok-other true a b t ts (Err (At p k)) q s ok err g = absurd g
+tok-other true a b t ts (Err Failed) q s ok err g = rw (err Failed refl) tt
+tok-other true a b t ts (Err OutOfMemory) q s ok err g = rw (err OutOfMemory refl) tt
+tok-other false a b t ts (Ok x) q s ok err g = absurd g
+tok-other false a b t ts (Err (At p k)) q s ok err g = rw (err (At p k) refl) g
+tok-other false a b t ts (Err Failed) q s ok err g = rw (err Failed refl) tt
+tok-other false a b t ts (Err OutOfMemory) q s ok err g = rw (err OutOfMemory refl) tt
 
 -- the same token, which stands for something else
-pub took_ok : {A B : Type 0} {test : Token → Bool} {f : Token → A} {a : A} {b : B} {s s' : Source}
+pub took-ok : {A B : Type 0} {test : Token → Bool} {f : Token → A} {a : A} {b : B} {s s' : Source}
     (h : Token → B)
     → b ≡ h s.now → Took test f s (Ok a) s' → Took test h s (Ok b) s'
-took_ok {test = test} {f = f} {a = a} {b = b} {s = s} {s' = s'} h e x = record {
+took-ok {test = test} {f = f} {a = a} {b = b} {s = s} {s' = s'} h e x = record {
   ran = record {
-    kept = kept_ok b x.ran.kept;
+    kept = kept-ok b x.ran.kept;
     less = x.ran.less;
-    told = λ ts is. tok_other (test s.now) (f s.now) (h s.now) s.now ts (Ok a) (Ok b) s'
+    told = λ ts is. tok-other (test s.now) (f s.now) (h s.now) s.now ts (Ok a) (Ok b) s'
         (λ y _. ap (λ z. Ok z) e) (λ y q. absurd (cc)) (x.ran.told ts is);
   };
 }
 
 -- the same refusal, of a token that stands for something else
-pub took_err : {A B : Type 0} {test : Token → Bool} {f : Token → A} {h : Token → B} {e : SyntaxStop}
+pub took-err : {A B : Type 0} {test : Token → Bool} {f : Token → A} {h : Token → B} {e : SyntaxStop}
     {s s' : Source}
     → Took test f s (Err e) s' → Took test h s (Err e) s'
-took_err {test = test} {f = f} {h = h} {e = why} {s = s} {s' = s'} x = record {
+took-err {test = test} {f = f} {h = h} {e = why} {s = s} {s' = s'} x = record {
   ran = record {
-    kept = kept_err x.ran.kept;
+    kept = kept-err x.ran.kept;
     less = tt;
-    told = λ ts is. tok_other (test s.now) (f s.now) (h s.now) s.now ts (Err why) (Err why) s'
+    told = λ ts is. tok-other (test s.now) (f s.now) (h s.now) s.now ts (Err why) (Err why) s'
         (λ y q. absurd (cc)) (λ y q. cc) (x.ran.told ts is);
   };
 }
 
 -- the present token, which passes the test
-pub took_token : {A : Type 0} {test : Token → Bool} {f : Token → A} {a : A} {u : Unit {0}}
+pub took-token : {A : Type 0} {test : Token → Bool} {f : Token → A} {a : A} {u : Unit {0}}
     {s s' : Source}
     → test s.now ≡ true → (s.later ≡ Some [] → s.now.class ≡ class.End) → s.now.class ≢ class.End
     → a ≡ f s.now → Advances s (Ok u) s'
     → Took test f s (Ok a) s'
-took_token {test = test} {f = f} {u = u} {s = s} {s' = s'} passed ends other is step =
-    rw is (record { ran = tok_taken test f s s' u passed ends other step })
+took-token {test = test} {f = f} {u = u} {s = s} {s' = s'} passed ends other is step =
+    rw is (record { ran = tok-taken test f s s' u passed ends other step })
 
 -- a token that is refused
-pub took_refused : {A : Type 0} {test : Token → Bool} {f : Token → A} {e : SyntaxStop} {s : Source}
+pub took-refused : {A : Type 0} {test : Token → Bool} {f : Token → A} {e : SyntaxStop} {s : Source}
     → test s.now ≡ false → e ≡ At s.now.place (code_by_class s.now.class) → Took test f s (Err e) s
-took_refused {test = test} {f = f} {e = e} {s = s} failed is =
-    record { ran = tok_refused test f s e failed is }
+took-refused {test = test} {f = f} {e = e} {s = s} failed is =
+    record { ran = tok-refused test f s e failed is }
 
 -- a token behind which the source failed
-pub took_failed : {A : Type 0} {test : Token → Bool} {f : Token → A} {x : TokenStop} {s s' : Source}
+pub took-failed : {A : Type 0} {test : Token → Bool} {f : Token → A} {x : TokenStop} {s s' : Source}
     → Advances s (Err x) s' → Took test f s (Err (handed_on x)) s'
-took_failed {x = x} {s = s} {s' = s'} step = record { ran = failed_with 1 _ s s' x step }
+took-failed {x = x} {s = s} {s' = s'} step = record { ran = failed-with 1 _ s s' x step }
 
 -- a step behind a token that passed
 past : (A : Type 0) (test : Token → Bool) (s : Source) (x : TokenStop) → test s.now ≡ true
@@ -249,85 +249,85 @@ past A test s source.Failed passed = passed
 past A test s source.OutOfMemory passed = passed
 
 -- what the exit of a `?` answers behind a token that passed
-pub past_exit : {A : Type 0} (test : Token → Bool) (s : Source) (x : TokenStop)
+pub past-exit : {A : Type 0} (test : Token → Bool) (s : Source) (x : TokenStop)
     (r : Result A SyntaxStop) → IsErr r × IsErrAnd r (λ e. e ≡ handed_on x) → test s.now ≡ true
     → RefusesBy test s r
-past_exit {A = A} test s x r h passed =
+past-exit {A = A} test s x r h passed =
     let e = err_from_is_err_and r h.1 in rw (e.1, e.2) (past A test s x passed)
 
 -- ---- pieces of a grammar
 
 -- the least number of tokens of two pieces
-few_both : (a b : Bool)
+few-both : (a b : Bool)
     → (if a && b then 0 else 1) ≤ (if a then 0 else 1) + ((if b then 0 else 1) + 0)
-few_both true true = omega arith
-few_both true false = omega arith
-few_both false true = omega arith
-few_both false false = omega arith
+few-both true true = omega arith
+few-both true false = omega arith
+few-both false true = omega arith
+few-both false false = omega arith
 
 -- a call that took k tokens took fewer, too
-pub more_ok : {A : Type 0} (r : Result A SyntaxStop) (k m a b : ℕ) → m ≤ k → OnOk r (k + b ≤ a)
+pub more-ok : {A : Type 0} (r : Result A SyntaxStop) (k m a b : ℕ) → m ≤ k → OnOk r (k + b ≤ a)
     → OnOk r (m + b ≤ a)
-more_ok (Ok x) k m a b le h = omega arith
-more_ok (Err e) k m a b le h = tt
+more-ok (Ok x) k m a b le h = omega arith
+more-ok (Err e) k m a b le h = tt
 
 -- the least number of tokens of a choice
-few_alt : (a b : Bool)
+few-alt : (a b : Bool)
     → ((if a || b then 0 else 1) ≤ (if a then 0 else 1))
     × ((if a || b then 0 else 1) ≤ (if b then 0 else 1))
-few_alt true true = (omega arith, omega arith)
-few_alt true false = (omega arith, omega arith)
-few_alt false true = (omega arith, omega arith)
-few_alt false false = (omega arith, omega arith)
+few-alt true true = (omega arith, omega arith)
+few-alt true false = (omega arith, omega arith)
+few-alt false true = (omega arith, omega arith)
+few-alt false false = (omega arith, omega arith)
 
 -- a piece with its place
-placed_told : {A B : Type 0} (f : ℕ → B → A) (p : ℕ) (o : Outcome B) (b : B) (s : Source)
+placed-told : {A B : Type 0} (f : ℕ → B → A) (p : ℕ) (o : Outcome B) (b : B) (s : Source)
     → Gives o (Ok b) s → Gives (and_then o (λ b. pure (f p b))) (Ok (f p b)) s
-placed_told f p (done c rest) b s g = (ap (λ y. f p y) g.0, g.1)
-placed_told f p (stop d rest) b s g = absurd g
+placed-told f p (done c rest) b s g = (ap (λ y. f p y) g.0, g.1)
+placed-told f p (stop d rest) b s g = absurd g
 
 module _ {X : Type 0} {Sem : X → Type 0} {e : Env X Sem} where
   -- a token is a piece of its own
-  pub at_tok : {A : Type 0} {look : Look} {f : Token → A} {s s' : Source} {r : Result A SyntaxStop}
+  pub at-tok : {A : Type 0} {look : Look} {f : Token → A} {s s' : Source} {r : Result A SyntaxStop}
       → Took (passes look) f s r s' → Reads e (tok false look f) s r s'
   unfolding reads_in
-  at_tok h = record { ran = h.ran }
+  at-tok h = record { ran = h.ran }
 
   -- memory ran out before a piece
-  pub no_memory : {A : Type 0} {g : G X Sem A} {s : Source} → Reads e g s (Err OutOfMemory) s
-  no_memory {g = g} {s = s} = record { ran = memory (size g) _ s }
+  pub no-memory : {A : Type 0} {g : G X Sem A} {s : Source} → Reads e g s (Err OutOfMemory) s
+  no-memory {g = g} {s = s} = record { ran = memory (size g) _ s }
 
   -- both of two pieces are read
-  pub both_ok : {A B C : Type 0} {f : B → C → A} {g : G X Sem B} {h : G X Sem C} {b : B} {c : C}
+  pub both-ok : {A B C : Type 0} {f : B → C → A} {g : G X Sem B} {h : G X Sem C} {b : B} {c : C}
       {s0 s1 s2 : Source}
       → Reads e g s0 (Ok b) s1 → Reads e h s1 (Ok c) s2 → Reads e (both f g h) s0 (Ok (f b c)) s2
   unfolding reads_in
-  both_ok {f = f} {g = g} {h = h} {b = b} {c = c} {s0 = s0} {s1 = s1} {s2 = s2} x y = record {
+  both-ok {f = f} {g = g} {h = h} {b = b} {c = c} {s0 = s0} {s1 = s1} {s2 = s2} x y = record {
     ran =
-        bind_ok (size g) (size h + 0) _ (reads_in e g) _ b s0 s1 s2 _
-        (few_both (nullable g) (nullable h)) x.ran
-        (bind_ok (size h) 0 _ (reads_in e h) _ c s1 s2 s2 _ (omega arith) y.ran
-        (pure_ran (f b c) s2));
+        bind-ok (size g) (size h + 0) _ (reads_in e g) _ b s0 s1 s2 _
+        (few-both (nullable g) (nullable h)) x.ran
+        (bind-ok (size h) 0 _ (reads_in e h) _ c s1 s2 s2 _ (omega arith) y.ran
+        (pure-ran (f b c) s2));
   }
 
   -- the first of two pieces is not
-  pub both_first : {A B C : Type 0} {f : B → C → A} {g : G X Sem B} {h : G X Sem C}
+  pub both-first : {A B C : Type 0} {f : B → C → A} {g : G X Sem B} {h : G X Sem C}
       {why : SyntaxStop} {s0 s1 : Source}
       → Reads e g s0 (Err why) s1 → Reads e (both f g h) s0 (Err why) s1
   unfolding reads_in
-  both_first {g = g} {why = why} {s0 = s0} {s1 = s1} x =
-      record { ran = bind_err (size g) _ (reads_in e g) _ why s0 s1 x.ran }
+  both-first {g = g} {why = why} {s0 = s0} {s1 = s1} x =
+      record { ran = bind-err (size g) _ (reads_in e g) _ why s0 s1 x.ran }
 
   -- the second of two pieces is not
-  pub both_second : {A B C : Type 0} {f : B → C → A} {g : G X Sem B} {h : G X Sem C} {b : B}
+  pub both-second : {A B C : Type 0} {f : B → C → A} {g : G X Sem B} {h : G X Sem C} {b : B}
       {why : SyntaxStop} {s0 s1 s2 : Source}
       → Reads e g s0 (Ok b) s1 → Reads e h s1 (Err why) s2 → Reads e (both f g h) s0 (Err why) s2
   unfolding reads_in
-  both_second {g = g} {h = h} {b = b} {why = why} {s0 = s0} {s1 = s1} {s2 = s2} x y = record {
+  both-second {g = g} {h = h} {b = b} {why = why} {s0 = s0} {s1 = s1} {s2 = s2} x y = record {
     ran =
-        bind_ok (size g) (size h + 0) _ (reads_in e g) _ b s0 s1 s2 _
-        (few_both (nullable g) (nullable h)) x.ran
-        (bind_err (size h) _ (reads_in e h) _ why s1 s2 y.ran);
+        bind-ok (size g) (size h + 0) _ (reads_in e g) _ b s0 s1 s2 _
+        (few-both (nullable g) (nullable h)) x.ran
+        (bind-err (size h) _ (reads_in e h) _ why s1 s2 y.ran);
   }
 
   -- of a choice, the first, where the present token begins it
@@ -337,7 +337,7 @@ module _ {X : Type 0} {Sem : X → Type 0} {e : Env X Sem} where
   left {g = g} {h = h} {s = s} {s' = s'} {r = r} begin x = record {
     ran = record {
       kept = x.ran.kept;
-      less = more_ok r (size g) _ s.left s'.left (few_alt (nullable g) (nullable h)).0 x.ran.less;
+      less = more-ok r (size g) _ s.left s'.left (few-alt (nullable g) (nullable h)).0 x.ran.less;
       told = λ ts is. rw begin (x.ran.told ts is);
     };
   }
@@ -349,52 +349,52 @@ module _ {X : Type 0} {Sem : X → Type 0} {e : Env X Sem} where
   right {g = g} {h = h} {s = s} {s' = s'} {r = r} begin x = record {
     ran = record {
       kept = x.ran.kept;
-      less = more_ok r (size h) _ s.left s'.left (few_alt (nullable g) (nullable h)).1 x.ran.less;
+      less = more-ok r (size h) _ s.left s'.left (few-alt (nullable g) (nullable h)).1 x.ran.less;
       told = λ ts is. rw begin (x.ran.told ts is);
     };
   }
 
   -- a piece that stands for something else is read
-  pub made_ok : {A B : Type 0} {f : B → A} {g : G X Sem B} {b : B} {s s' : Source}
+  pub made-ok : {A B : Type 0} {f : B → A} {g : G X Sem B} {b : B} {s s' : Source}
       → Reads e g s (Ok b) s' → Reads e (made f g) s (Ok (f b)) s'
   unfolding reads_in
-  made_ok {f = f} {g = g} {b = b} {s = s} {s' = s'} x = record {
-    ran = bind_ok (size g) 0 (size g) (reads_in e g) _ b s s' s' _ (omega arith) x.ran
-        (pure_ran (f b) s');
+  made-ok {f = f} {g = g} {b = b} {s = s} {s' = s'} x = record {
+    ran = bind-ok (size g) 0 (size g) (reads_in e g) _ b s s' s' _ (omega arith) x.ran
+        (pure-ran (f b) s');
   }
 
   -- a piece that stands for something else is not
-  pub made_err : {A B : Type 0} {f : B → A} {g : G X Sem B} {why : SyntaxStop} {s s' : Source}
+  pub made-err : {A B : Type 0} {f : B → A} {g : G X Sem B} {why : SyntaxStop} {s s' : Source}
       → Reads e g s (Err why) s' → Reads e (made f g) s (Err why) s'
   unfolding reads_in
-  made_err {g = g} {why = why} {s = s} {s' = s'} x =
-      record { ran = bind_err (size g) _ (reads_in e g) _ why s s' x.ran }
+  made-err {g = g} {why = why} {s = s} {s' = s'} x =
+      record { ran = bind-err (size g) _ (reads_in e g) _ why s s' x.ran }
 
   -- nothing is read
-  pub at_ret : {A : Type 0} {a : A} {s : Source} → Reads e (ret a) s (Ok a) s
+  pub at-ret : {A : Type 0} {a : A} {s : Source} → Reads e (ret a) s (Ok a) s
   unfolding reads_in
-  at_ret {a = a} {s = s} = record { ran = pure_ran a s }
+  at-ret {a = a} {s = s} = record { ran = pure-ran a s }
 
   -- a piece with its place is read
-  pub placed_ok : {A B : Type 0} {f : ℕ → B → A} {g : G X Sem B} {b : B} {s s' : Source}
+  pub placed-ok : {A B : Type 0} {f : ℕ → B → A} {g : G X Sem B} {b : B} {s s' : Source}
       → Reads e g s (Ok b) s' → Reads e (placed f g) s (Ok (f s.now.place b)) s'
   unfolding reads_in
-  placed_ok {f = f} {g = g} {b = b} {s = s} {s' = s'} x = record {
+  placed-ok {f = f} {g = g} {b = b} {s = s} {s' = s'} x = record {
     ran = record {
-      kept = kept_ok (f s.now.place b) x.ran.kept;
+      kept = kept-ok (f s.now.place b) x.ran.kept;
       less = x.ran.less;
-      told = λ ts is. placed_told f s.now.place (reads_in e g (s.now ∷ ts)) b s' (x.ran.told ts is);
+      told = λ ts is. placed-told f s.now.place (reads_in e g (s.now ∷ ts)) b s' (x.ran.told ts is);
     };
   }
 
   -- a piece with its place is not
-  pub placed_err : {A B : Type 0} {f : ℕ → B → A} {g : G X Sem B} {why : SyntaxStop} {s s' : Source}
+  pub placed-err : {A B : Type 0} {f : ℕ → B → A} {g : G X Sem B} {why : SyntaxStop} {s s' : Source}
       → Reads e g s (Err why) s' → Reads e (placed f g) s (Err why) s'
   unfolding reads_in
-  placed_err {f = f} {g = g} {why = why} {s = s} {s' = s'} x = record {
+  placed-err {f = f} {g = g} {why = why} {s = s} {s' = s'} x = record {
     ran = record {
-      kept = kept_err x.ran.kept;
+      kept = kept-err x.ran.kept;
       less = tt;
-      told = λ ts is. err_told (reads_in e g (s.now ∷ ts)) _ why s' (x.ran.told ts is);
+      told = λ ts is. err-told (reads_in e g (s.now ∷ ts)) _ why s' (x.ran.told ts is);
     };
   }

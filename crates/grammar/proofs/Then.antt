@@ -5,22 +5,22 @@
 use Rattle.std.proofs.Common.{◌≡◌, ℕ, true, false, [], ◌∷◌, ◌++◌, ◌⊎◌, inl, inr, refl, sym, ◌∙◌, ap, subst, append_assoc}
 use Rattle.ir_lexer.specs.Tokens.{Token}
 use Rattle.grammar.specs.Grammar.{Tokens, Parser, Outcome, done, stop, and_then, ◌>>=◌, pure, place_of}
-use Rattle.grammar.specs.Front.{Lists, Viable, Barred, Shallow, Some_of, Front, Meets}
-use Rattle.grammar.proofs.Cut.{Joined, Deeper, barred_second, none_second, shallow_second, barred_first, none_first, shallow_first}
+use Rattle.grammar.specs.Front.{Lists, Viable, Barred, Shallow, Some_of, Front, IsExactAnswer}
+use Rattle.grammar.proofs.Cut.{Joined, Deeper, barred-second, none-second, shallow-second, barred-first, none-first, shallow-first}
 
 -- no token goes on with a piece of the one and begins a piece of the other
 abbrev pub Apart : Lists → Lists → Type 0
 Apart P Q = (d : Tokens) (y : Token) (e w : Tokens) → P d → P (d ++ y ∷ e) → Q (y ∷ w) → ⊥
 
 -- what is barred for more lists is barred for fewer
-pub barred_in : {P Q : Lists} → ((w : Tokens) → P w → Q w) → (d rest : Tokens) → Barred Q d rest
+pub barred-in : {P Q : Lists} → ((w : Tokens) → P w → Q w) → (d rest : Tokens) → Barred Q d rest
     → Barred P d rest
-barred_in h d rest b t more e is x = b t more e is (h (d ++ t ∷ e) x)
+barred-in h d rest b t more e is x = b t more e is (h (d ++ t ∷ e) x)
 
 -- what is shallow for more lists is shallow for fewer
-pub shallow_in : {D E : Lists} → ((w : Tokens) → D w → E w) → (d : Tokens) → Shallow E d
+pub shallow-in : {D E : Lists} → ((w : Tokens) → D w → E w) → (d : Tokens) → Shallow E d
     → Shallow D d
-shallow_in h d s p q is x = s p q is (h p x)
+shallow-in h d s p q is x = s p q is (h p x)
 
 module _ {A B C : Type 0} (f : B → C → A) (R : Tokens → B → Type 0) (S : Tokens → C → Type 0)
     (DR DS : Lists)
@@ -36,23 +36,23 @@ module _ {A B C : Type 0} (f : B → C → A) (R : Tokens → B → Type 0) (S :
   abbrev pub DeepBoth : Lists
   DeepBoth p = DR p ⊎ ((front back : Tokens) × (b : B) × (p ≡ front ++ back) × R front b × DS back)
 
-  to_joined : (w : Tokens) → Some_of Both w
+  to-joined : (w : Tokens) → Some_of Both w
       → Joined (Some_of R) (Some_of S) DR DS apart seen next_seen some w
-  to_joined w (a, (front, back, b, c, is, r, s, e)) = (front, back, is, (b, r), (c, s))
+  to-joined w (a, (front, back, b, c, is, r, s, e)) = (front, back, is, (b, r), (c, s))
 
-  to_deeper : (w : Tokens) → DeepBoth w
+  to-deeper : (w : Tokens) → DeepBoth w
       → Deeper (Some_of R) (Some_of S) DR DS apart seen next_seen some w
-  to_deeper w (inl x) = inl x
-  to_deeper w (inr (front, back, b, is, r, x)) = inr (front, back, is, (b, r), x)
+  to-deeper w (inl x) = inl x
+  to-deeper w (inr (front, back, b, is, r, x)) = inr (front, back, is, (b, r), x)
 
-  viable_second : (d1 d2 : Tokens) (b : B) → R d1 b → Viable (Some_of S) d2
+  viable-second : (d1 d2 : Tokens) (b : B) → R d1 b → Viable (Some_of S) d2
       → Viable (Some_of Both) (d1 ++ d2)
-  viable_second d1 d2 b r (more, (c, s)) =
+  viable-second d1 d2 b r (more, (c, s)) =
       (more, (f b c, (d1, d2 ++ more, b, c, append_assoc d1 d2 more, r, s, refl)))
 
   -- what goes on to the first goes on to both
-  pub viable_first : (d : Tokens) → Viable (Some_of R) d → Viable (Some_of Both) d
-  viable_first d (more, (b, r)) = (
+  pub viable-first : (d : Tokens) → Viable (Some_of R) d → Viable (Some_of Both) d
+  viable-first d (more, (b, r)) = (
     more ++ sample.0,
     (
       f b sample.1.0,
@@ -70,28 +70,28 @@ module _ {A B C : Type 0} (f : B → C → A) (R : Tokens → B → Type 0) (S :
   )
 
   -- what is too deep in one of both is viable
-  pub deep_both_seen : (p : Tokens) → DeepBoth p → Viable (Some_of Both) p
-  deep_both_seen p (inl x) = viable_first p (seen p x)
-  deep_both_seen p (inr (front, back, b, is, r, x)) =
+  pub deep-both-seen : (p : Tokens) → DeepBoth p → Viable (Some_of Both) p
+  deep-both-seen p (inl x) = viable-first p (seen p x)
+  deep-both-seen p (inr (front, back, b, is, r, x)) =
       subst (λ (l : Tokens). Viable (Some_of Both) l) (sym is)
-      (viable_second front back b r (next_seen back x))
+      (viable-second front back b r (next_seen back x))
 
   -- behind the first piece
   second : (ts : Tokens) (b : B) (rest1 : Tokens) (o : Outcome C) → Front R DR ts b rest1
-      → Meets S DS rest1 o
-      → Meets Both DeepBoth ts (and_then o (λ c. pure (f b c)))
+      → IsExactAnswer S DS rest1 o
+      → IsExactAnswer Both DeepBoth ts (and_then o (λ c. pure (f b c)))
   second ts b rest1 (done c rest) x y =
       let bar = subst (λ (l : Tokens). Barred (Some_of R) x.front l) y.is x.barred in
       record {
         front = x.front ++ y.front;
         is = x.is ∙ ap (λ l. x.front ++ l) y.is ∙ sym (append_assoc x.front y.front rest);
         tree = (x.front, y.front, b, c, refl, x.tree, y.tree, refl);
-        barred = barred_in to_joined (x.front ++ y.front) rest
-            (barred_second (Some_of R)
+        barred = barred-in to-joined (x.front ++ y.front) rest
+            (barred-second (Some_of R)
             (Some_of S) DR DS apart seen next_seen some x.front y.front rest
             (b, x.tree) bar y.barred);
-        shallow = shallow_in to_deeper (x.front ++ y.front)
-            (shallow_second (Some_of R)
+        shallow = shallow-in to-deeper (x.front ++ y.front)
+            (shallow-second (Some_of R)
             (Some_of S) DR DS apart seen next_seen some x.front y.front rest
             (b, x.tree) bar x.shallow y.shallow);
       }
@@ -100,16 +100,16 @@ module _ {A B C : Type 0} (f : B → C → A) (R : Tokens → B → Type 0) (S :
       record {
         front = x.front ++ y.front;
         is = x.is ∙ ap (λ l. x.front ++ l) y.is ∙ sym (append_assoc x.front y.front rest);
-        viable = viable_second x.front y.front b x.tree y.viable;
-        none = λ w. none_second (Some_of R)
+        viable = viable-second x.front y.front b x.tree y.viable;
+        none = λ w. none-second (Some_of R)
             (Some_of S) DR DS apart seen next_seen some x.front y.front rest (b, x.tree) bar y.none
-            (to_joined _ w);
-        barred = barred_in to_joined (x.front ++ y.front) rest
-            (barred_second (Some_of R)
+            (to-joined _ w);
+        barred = barred-in to-joined (x.front ++ y.front) rest
+            (barred-second (Some_of R)
             (Some_of S) DR DS apart seen next_seen some x.front y.front rest
             (b, x.tree) bar y.barred);
-        shallow = shallow_in to_deeper (x.front ++ y.front)
-            (shallow_second (Some_of R)
+        shallow = shallow-in to-deeper (x.front ++ y.front)
+            (shallow-second (Some_of R)
             (Some_of S) DR DS apart seen next_seen some x.front y.front rest
             (b, x.tree) bar x.shallow y.shallow);
       }
@@ -129,31 +129,31 @@ module _ {A B C : Type 0} (f : B → C → A) (R : Tokens → B → Type 0) (S :
           x.tree,
           y.deep,
         );
-        shallow = shallow_in to_deeper (x.front ++ y.front)
-            (shallow_second (Some_of R)
+        shallow = shallow-in to-deeper (x.front ++ y.front)
+            (shallow-second (Some_of R)
             (Some_of S) DR DS apart seen next_seen some x.front y.front rest
             (b, x.tree) bar x.shallow y.shallow);
       }
 
   -- a reader of the one and then of the other meets what is asked for both
-  pub then_meets : (ts : Tokens) (o : Outcome B) (q : Parser C) → Meets R DR ts o
-      → ((b : B) (rest : Tokens) → o ≡ done b rest → Meets S DS rest (q rest))
-      → Meets Both DeepBoth ts (and_then o (λ b. q >>= (λ c. pure (f b c))))
-  then_meets ts (done b rest) q x y = second ts b rest (q rest) x (y b rest refl)
-  then_meets ts (stop false rest) q x y = record {
+  pub then-meets : (ts : Tokens) (o : Outcome B) (q : Parser C) → IsExactAnswer R DR ts o
+      → ((b : B) (rest : Tokens) → o ≡ done b rest → IsExactAnswer S DS rest (q rest))
+      → IsExactAnswer Both DeepBoth ts (and_then o (λ b. q >>= (λ c. pure (f b c))))
+  then-meets ts (done b rest) q x y = second ts b rest (q rest) x (y b rest refl)
+  then-meets ts (stop false rest) q x y = record {
     front = x.front;
     is = x.is;
-    viable = viable_first x.front x.viable;
-    none = λ w. none_first (Some_of R)
-        (Some_of S) DR DS apart seen next_seen some x.front x.viable x.none (to_joined _ w);
-    barred = barred_in to_joined x.front rest
-        (barred_first (Some_of R)
+    viable = viable-first x.front x.viable;
+    none = λ w. none-first (Some_of R)
+        (Some_of S) DR DS apart seen next_seen some x.front x.viable x.none (to-joined _ w);
+    barred = barred-in to-joined x.front rest
+        (barred-first (Some_of R)
         (Some_of S) DR DS apart seen next_seen some x.front rest x.viable x.none x.barred);
-    shallow = shallow_in to_deeper x.front
-        (shallow_first (Some_of R)
+    shallow = shallow-in to-deeper x.front
+        (shallow-first (Some_of R)
         (Some_of S) DR DS apart seen next_seen some x.front x.viable x.shallow);
   }
-  then_meets ts (stop true rest) q x y =
+  then-meets ts (stop true rest) q x y =
       let v = seen (x.front ++ x.next ∷ []) x.deep in
       let viable : Viable (Some_of R) x.front =
       (x.next ∷ v.0, subst (Some_of R) (append_assoc x.front (x.next ∷ []) v.0) v.1) in
@@ -164,8 +164,8 @@ module _ {A B C : Type 0} (f : B → C → A) (R : Tokens → B → Type 0) (S :
         at = x.at;
         is = x.is;
         deep = inl x.deep;
-        shallow = shallow_in to_deeper x.front
-            (shallow_first (Some_of R)
+        shallow = shallow-in to-deeper x.front
+            (shallow-first (Some_of R)
             (Some_of S) DR DS apart seen next_seen some x.front viable x.shallow);
       }
 
@@ -174,9 +174,9 @@ abbrev pub Mapped : {A B : Type 0} → (B → A) → (Tokens → B → Type 0) �
 Mapped {B = B} f R ts a = (b : B) × R ts b × (a ≡ f b)
 
 -- a reader meets what is asked where its tree stands for something else
-pub map_meets : {A B : Type 0} (f : B → A) (R : Tokens → B → Type 0) (D : Lists) (ts : Tokens)
-    (o : Outcome B) → Meets R D ts o → Meets (Mapped f R) D ts (and_then o (λ b. pure (f b)))
-map_meets f R D ts (done b rest) x =
+pub map-meets : {A B : Type 0} (f : B → A) (R : Tokens → B → Type 0) (D : Lists) (ts : Tokens)
+    (o : Outcome B) → IsExactAnswer R D ts o → IsExactAnswer (Mapped f R) D ts (and_then o (λ b. pure (f b)))
+map-meets f R D ts (done b rest) x =
     record {
       front = x.front;
       is = x.is;
@@ -184,7 +184,7 @@ map_meets f R D ts (done b rest) x =
       barred = λ t more e at y. x.barred t more e at (y.1.0, y.1.1);
       shallow = x.shallow;
     }
-map_meets f R D ts (stop false rest) x = record {
+map-meets f R D ts (stop false rest) x = record {
   front = x.front;
   is = x.is;
   viable = (x.viable.0, (f x.viable.1.0, (x.viable.1.0, x.viable.1.1, refl)));
@@ -192,7 +192,7 @@ map_meets f R D ts (stop false rest) x = record {
   barred = λ t more e at y. x.barred t more e at (y.1.0, y.1.1);
   shallow = x.shallow;
 }
-map_meets f R D ts (stop true rest) x =
+map-meets f R D ts (stop true rest) x =
     record {
       front = x.front;
       next = x.next;
@@ -207,24 +207,24 @@ map_meets f R D ts (stop true rest) x =
 abbrev pub Placed : {A B : Type 0} → (ℕ → B → A) → (Tokens → B → Type 0) → Tokens → A → Type 0
 Placed {B = B} f R ts a = (b : B) × R ts b × (a ≡ f (place_of ts) b)
 
-same_place : {B : Type 0} (R : Tokens → B → Type 0) → ((b : B) → R [] b → ⊥)
+same-place : {B : Type 0} (R : Tokens → B → Type 0) → ((b : B) → R [] b → ⊥)
     → (front rest ts : Tokens) (b : B) → R front b → ts ≡ front ++ rest
     → place_of ts ≡ place_of front
-same_place R full [] rest ts b r is = absurd (full b r)
-same_place R full (t ∷ front) rest ts b r is = ap place_of is
+same-place R full [] rest ts b r is = absurd (full b r)
+same-place R full (t ∷ front) rest ts b r is = ap place_of is
 
 -- a reader meets what is asked where its tree gets the place of its first token
-pub place_meets : {A B : Type 0} (f : ℕ → B → A) (R : Tokens → B → Type 0) (D : Lists)
-    (full : (b : B) → R [] b → ⊥) (ts : Tokens) (o : Outcome B) → Meets R D ts o
-    → Meets (Placed f R) D ts (and_then o (λ b. pure (f (place_of ts) b)))
-place_meets f R D full ts (done b rest) x = record {
+pub place-meets : {A B : Type 0} (f : ℕ → B → A) (R : Tokens → B → Type 0) (D : Lists)
+    (full : (b : B) → R [] b → ⊥) (ts : Tokens) (o : Outcome B) → IsExactAnswer R D ts o
+    → IsExactAnswer (Placed f R) D ts (and_then o (λ b. pure (f (place_of ts) b)))
+place-meets f R D full ts (done b rest) x = record {
   front = x.front;
   is = x.is;
-  tree = (b, x.tree, ap (λ p. f p b) (same_place R full x.front rest ts b x.tree x.is));
+  tree = (b, x.tree, ap (λ p. f p b) (same-place R full x.front rest ts b x.tree x.is));
   barred = λ t more e at y. x.barred t more e at (y.1.0, y.1.1);
   shallow = x.shallow;
 }
-place_meets f R D full ts (stop false rest) x = record {
+place-meets f R D full ts (stop false rest) x = record {
   front = x.front;
   is = x.is;
   viable = (
@@ -235,7 +235,7 @@ place_meets f R D full ts (stop false rest) x = record {
   barred = λ t more e at y. x.barred t more e at (y.1.0, y.1.1);
   shallow = x.shallow;
 }
-place_meets f R D full ts (stop true rest) x =
+place-meets f R D full ts (stop true rest) x =
     record {
       front = x.front;
       next = x.next;

@@ -4,15 +4,15 @@
 -- the token between them would both go on with a piece and begin the next. Then by the grammar.
 use Rattle.std.proofs.Common.{◌≡◌, Bool, true, List, [], ◌∷◌, ◌++◌, ◌⊎◌, inl, inr, refl, sym, ◌∙◌, ap, subst}
 use Rattle.ir_lexer.specs.Tokens.{Token}
-use Rattle.grammar.specs.Grammar.{Tokens, Each, G, ret, tok, both, alt, star, chain, made, placed, kid, place_of, Links, Derives, nullable, starts}
+use Rattle.grammar.specs.Grammar.{Tokens, EachPiece, G, ret, tok, both, alt, star, chain, made, placed, kid, place_of, Links, Derives, nullable, starts}
 use Rattle.grammar.specs.Front.{Some_of}
 use Rattle.grammar.proofs.Cut.{Split, same, longer, shorter, split}
 use Rattle.grammar.proofs.Firsts.{Kids}
 use Rattle.grammar.proofs.Firsts as firsts
 use Rattle.grammar.proofs.Begun.{IsOneToken}
 use Rattle.grammar.proofs.Then.{Apart}
-use Rattle.grammar.proofs.Chain.{Rest, rest_piece}
-use Rattle.grammar.proofs.Choice.{empty_parts}
+use Rattle.grammar.proofs.Chain.{Rest, rest-piece}
+use Rattle.grammar.proofs.Choice.{empty-parts}
 
 module _ {X : Type 0} {Sem : X → Type 0} (kid_starts : X → Token → Bool)
     (Derived : (x : X) → Tokens → Sem x → Type 0) (kids : Kids Derived kid_starts)
@@ -50,19 +50,19 @@ module _ {X : Type 0} {Sem : X → Type 0} (kid_starts : X → Token → Bool)
           (c, subst (λ (w : Tokens). Q w c) q z))
 
   -- a row of pieces that are not empty is not empty
-  each_empty : {B : Type 0} (P : Tokens → B → Type 0) (full : (b : B) → P [] b → ⊥) (b : B)
-      (bs : List B) → Each P [] (b ∷ bs) → ⊥
-  each_empty P full b bs (front, back, is, r, more) = go front is r
+  each-empty : {B : Type 0} (P : Tokens → B → Type 0) (full : (b : B) → P [] b → ⊥) (b : B)
+      (bs : List B) → EachPiece P [] (b ∷ bs) → ⊥
+  each-empty P full b bs (front, back, is, r, more) = go front is r
     where
       go : (k : Tokens) → [] ≡ k ++ back → P k b → ⊥
       go [] e r = full b r
       go (y ∷ k) e r = absurd (cc)
 
   -- a token that goes on with a piece begins no row of them
-  each_apart : {B : Type 0} (P : Tokens → B → Type 0) (full : (b : B) → P [] b → ⊥)
-      → Apart (Some_of P) (Some_of P) → Apart (Some_of P) (Some_of (Each P))
-  each_apart P full apart d y e w p q ([], x) = absurd (cc)
-  each_apart {B = B} P full apart d y e w p q (b ∷ bs, (front, back, is, r, more)) = go front is r
+  each-apart : {B : Type 0} (P : Tokens → B → Type 0) (full : (b : B) → P [] b → ⊥)
+      → Apart (Some_of P) (Some_of P) → Apart (Some_of P) (Some_of (EachPiece P))
+  each-apart P full apart d y e w p q ([], x) = absurd (cc)
+  each-apart {B = B} P full apart d y e w p q (b ∷ bs, (front, back, is, r, more)) = go front is r
     where
       go : (k : Tokens) → y ∷ w ≡ k ++ back → P k b → ⊥
       go [] h r = full b r
@@ -70,20 +70,20 @@ module _ {X : Type 0} {Sem : X → Type 0} (kid_starts : X → Token → Bool)
           apart d y e k p q (b, subst (λ (z : Token). P (z ∷ k) b) hd r)
 
   -- a row has one list of trees
-  one_each : {B : Type 0} (P : Tokens → B → Type 0) (full : (b : B) → P [] b → ⊥)
+  one-each : {B : Type 0} (P : Tokens → B → Type 0) (full : (b : B) → P [] b → ⊥)
       → Apart (Some_of P) (Some_of P) → ((d : Tokens) (a b : B) → P d a → P d b → a ≡ b)
-      → (bs cs : List B) (d : Tokens) → Each P d bs → Each P d cs → bs ≡ cs
-  one_each P full apart one [] [] d x z = refl
-  one_each P full apart one [] (c ∷ cs) d x z =
-      absurd (each_empty P full c cs (subst (λ (w : Tokens). Each P w (c ∷ cs)) x z))
-  one_each P full apart one (b ∷ bs) [] d x z =
-      absurd (each_empty P full b bs (subst (λ (w : Tokens). Each P w (b ∷ bs)) z x))
-  one_each P full apart one (b ∷ bs) (c ∷ cs) d (d1, d2, is, r, more) (f1, f2, is2, r2, more2) =
-      let q = cut P (Each P) (each_apart P full apart) d1 d2 f1 f2 b c bs cs r more r2 more2
+      → (bs cs : List B) (d : Tokens) → EachPiece P d bs → EachPiece P d cs → bs ≡ cs
+  one-each P full apart one [] [] d x z = refl
+  one-each P full apart one [] (c ∷ cs) d x z =
+      absurd (each-empty P full c cs (subst (λ (w : Tokens). EachPiece P w (c ∷ cs)) x z))
+  one-each P full apart one (b ∷ bs) [] d x z =
+      absurd (each-empty P full b bs (subst (λ (w : Tokens). EachPiece P w (b ∷ bs)) z x))
+  one-each P full apart one (b ∷ bs) (c ∷ cs) d (d1, d2, is, r, more) (f1, f2, is2, r2, more2) =
+      let q = cut P (EachPiece P) (each-apart P full apart) d1 d2 f1 f2 b c bs cs r more r2 more2
       (sym is ∙ is2) in
       let h = one f1 b c (subst (λ (w : Tokens). P w b) q.0 r) r2 in
-      let t = one_each P full apart one bs cs d2 more
-      (subst (λ (w : Tokens). Each P w cs) (sym q.1) more2) in cc
+      let t = one-each P full apart one bs cs d2 more
+      (subst (λ (w : Tokens). EachPiece P w cs) (sym q.1) more2) in cc
 
   module _ {B C D I : Type 0} (p : B → C → I) (q : B → D → I) (h : G X Sem B) (k : G X Sem C)
       (l : G X Sem D) (o : (f : List I → List I) → OneToken (chain f p q h k l))
@@ -91,12 +91,12 @@ module _ {X : Type 0} {Sem : X → Type 0} (kid_starts : X → Token → Bool)
       (one_k : (d : Tokens) (a b : C) → Tree k d a → Tree k d b → a ≡ b)
       (one_l : (d : Tokens) (a b : D) → Tree l d a → Tree l d b → a ≡ b) where
     -- a body of the first kind is not empty
-    full_k : (c : C) → Tree k [] c → ⊥
-    full_k c x = let u = empty k c x in absurd (cc (u, (o (λ l. l)).3))
+    full-k : (c : C) → Tree k [] c → ⊥
+    full-k c x = let u = empty k c x in absurd (cc (u, (o (λ l. l)).3))
 
     -- a body of the second kind is not empty
-    full_l : (c : D) → Tree l [] c → ⊥
-    full_l c x = let u = empty l c x in absurd (cc (u, (o (λ l. l)).4))
+    full-l : (c : D) → Tree l [] c → ⊥
+    full-l c x = let u = empty l c x in absurd (cc (u, (o (λ l. l)).4))
 
     -- a body and what comes behind it
     abbrev Body : B → I → List I → Tokens → Type 0
@@ -106,15 +106,15 @@ module _ {X : Type 0} {Sem : X → Type 0} (kid_starts : X → Token → Bool)
         ⊎ ((d : D) × Tree l back d × (is ≡ []) × (i ≡ q b d))
 
     -- the same, as a function of the head
-    body_rest : (b : B) (i : I) (is : List I) (w : Tokens) → Body b i is w
+    body-rest : (b : B) (i : I) (is : List I) (w : Tokens) → Body b i is w
         → Some_of (Rest p q (Tree h) (Tree k) (Tree l)) w
-    body_rest b i is w (inl (mid, rest, c, e, x, more, ei)) =
+    body-rest b i is w (inl (mid, rest, c, e, x, more, ei)) =
         ((λ b. p b c ∷ is), inl (mid, rest, c, is, e, x, more, refl))
-    body_rest b i is w (inr (d, x, en, ei)) = ((λ b. q b d ∷ []), inr (d, x, refl))
+    body-rest b i is w (inr (d, x, en, ei)) = ((λ b. q b d ∷ []), inr (d, x, refl))
 
     -- a token that goes on with a head begins no body
-    rest_apart : Apart (Some_of (Tree h)) (Some_of (Rest p q (Tree h) (Tree k) (Tree l)))
-    rest_apart d y e w x z r = go (rest_piece p q (Tree h) (Tree k) (Tree l) full_k y w r)
+    rest-apart : Apart (Some_of (Tree h)) (Some_of (Rest p q (Tree h) (Tree k) (Tree l)))
+    rest-apart d y e w x z r = go (rest-piece p q (Tree h) (Tree k) (Tree l) full-k y w r)
       where
         go : ((e : Tokens) × (c : C) × Tree k (y ∷ e) c) ⊎ ((d : D) × Tree l (y ∷ w) d) → ⊥
         go (inl (v, c, k)) = (o (λ l. l)).6 d y e v x z (inl (c, k))
@@ -123,24 +123,24 @@ module _ {X : Type 0} {Sem : X → Type 0} (kid_starts : X → Token → Bool)
     -- a list is not a body of both kinds
     crossed : {P : Type 0} (d mid rest : Tokens) (c : C) (x : D) → d ≡ mid ++ rest → Tree k mid c
         → Tree l d x → P
-    crossed [] mid rest c x e a b = absurd (full_l x b)
-    crossed (t ∷ d) [] rest c x e a b = absurd (full_k c a)
+    crossed [] mid rest c x e a b = absurd (full-l x b)
+    crossed (t ∷ d) [] rest c x e a b = absurd (full-k c a)
     crossed (t ∷ d) (z ∷ mid) rest c x e a b = let hd : z ≡ t = cc in
         absurd ((o (λ l. l)).5 t (subst (λ (v : Token). opens k v ≡ true) hd (first k z mid c a))
         (first l t d x b))
 
     -- a body is not empty
-    body_empty : (b : B) (i : I) (is : List I) → Body b i is [] → ⊥
-    body_empty b i is (inl (mid, rest, c, e, x, more, ei)) =
-        full_k c (subst (λ (w : Tokens). Tree k w c) (empty_parts mid rest e).0 x)
-    body_empty b i is (inr (d, x, en, ei)) = full_l d x
+    body-empty : (b : B) (i : I) (is : List I) → Body b i is [] → ⊥
+    body-empty b i is (inl (mid, rest, c, e, x, more, ei)) =
+        full-k c (subst (λ (w : Tokens). Tree k w c) (empty-parts mid rest e).0 x)
+    body-empty b i is (inr (d, x, en, ei)) = full-l d x
 
     -- a body and what is behind it have one tree
-    one_body : (b b2 : B) (i j : I) (is js : List I) (d : Tokens) → b ≡ b2
+    one-body : (b b2 : B) (i j : I) (is js : List I) (d : Tokens) → b ≡ b2
         → ((d : Tokens) → Links p q (Tree h) (Tree k) (Tree l) d is
         → Links p q (Tree h) (Tree k) (Tree l) d js → is ≡ js)
         → Body b i is d → Body b2 j js d → i ∷ is ≡ j ∷ js
-    one_body b b2 i j is js d eb again (inl (mid, rest, c, e, x, more, ei))
+    one-body b b2 i j is js d eb again (inl (mid, rest, c, e, x, more, ei))
         (inl (mid2, rest2, c2, e2, x2, more2, ei2)) =
         let w = cut (Tree k) (Links p q (Tree h) (Tree k) (Tree l))
         (o (λ l. l)).7 mid rest mid2 rest2 c c2 is js x more x2 more2 (sym e ∙ e2) in
@@ -149,37 +149,37 @@ module _ {X : Type 0} {Sem : X → Type 0} (kid_starts : X → Token → Bool)
         (subst (λ (w : Tokens). Links p q (Tree h) (Tree k) (Tree l) w is) w.1 more) more2 in
         let z : i ≡ j = ei ∙ (ap (λ y. p y c) eb ∙ (ap (λ y. p b2 y) u ∙ sym ei2)) in
         ap (λ y. y ∷ is) z ∙ ap (λ y. j ∷ y) v
-    one_body b b2 i j is js d eb again (inr (c, x, en, ei)) (inr (c2, x2, en2, ei2)) =
+    one-body b b2 i j is js d eb again (inr (c, x, en, ei)) (inr (c2, x2, en2, ei2)) =
         let u = one_l d c c2 x x2 in
         let z : i ≡ j = ei ∙ (ap (λ y. q y c) eb ∙ (ap (λ y. q b2 y) u ∙ sym ei2)) in
         ap (λ y. y ∷ is) z ∙ ap (λ y. j ∷ y) (en ∙ sym en2)
-    one_body b b2 i j is js d eb again (inl (mid, rest, c, e, x, more, ei))
+    one-body b b2 i j is js d eb again (inl (mid, rest, c, e, x, more, ei))
         (inr (c2, x2, en2, ei2)) = crossed d mid rest c c2 e x x2
-    one_body b b2 i j is js d eb again (inr (c2, x2, en2, ei2))
+    one-body b b2 i j is js d eb again (inr (c2, x2, en2, ei2))
         (inl (mid, rest, c, e, x, more, ei)) = crossed d mid rest c c2 e x x2
 
     -- a row with a head is not empty
-    links_empty : (i : I) (is : List I) → Links p q (Tree h) (Tree k) (Tree l) [] (i ∷ is) → ⊥
-    links_empty i is (front, back, b, e, x, r) =
-        body_empty b i is (subst (Body b i is) (empty_parts front back e).1 r)
+    links-empty : (i : I) (is : List I) → Links p q (Tree h) (Tree k) (Tree l) [] (i ∷ is) → ⊥
+    links-empty i is (front, back, b, e, x, r) =
+        body-empty b i is (subst (Body b i is) (empty-parts front back e).1 r)
 
     -- a row has one list of trees
-    one_links : (is js : List I) (d : Tokens) → Links p q (Tree h) (Tree k) (Tree l) d is
+    one-links : (is js : List I) (d : Tokens) → Links p q (Tree h) (Tree k) (Tree l) d is
         → Links p q (Tree h) (Tree k) (Tree l) d js → is ≡ js
-    one_links [] [] d x z = refl
-    one_links [] (j ∷ js) d x z =
-        absurd (links_empty j js
+    one-links [] [] d x z = refl
+    one-links [] (j ∷ js) d x z =
+        absurd (links-empty j js
         (subst (λ (w : Tokens). Links p q (Tree h) (Tree k) (Tree l) w (j ∷ js)) x z))
-    one_links (i ∷ is) [] d x z =
-        absurd (links_empty i is
+    one-links (i ∷ is) [] d x z =
+        absurd (links-empty i is
         (subst (λ (w : Tokens). Links p q (Tree h) (Tree k) (Tree l) w (i ∷ is)) z x))
-    one_links (i ∷ is) (j ∷ js) d (front, back, b, e, x, r) (front2, back2, b2, e2, x2, r2) =
-        let s = body_rest b i is back r in let s2 = body_rest b2 j js back2 r2 in
+    one-links (i ∷ is) (j ∷ js) d (front, back, b, e, x, r) (front2, back2, b2, e2, x2, r2) =
+        let s = body-rest b i is back r in let s2 = body-rest b2 j js back2 r2 in
         let w = cut (Tree h)
-        (Rest p q (Tree h) (Tree k) (Tree l)) rest_apart front back front2 back2 b b2 s.0 s2.0 x s.1
+        (Rest p q (Tree h) (Tree k) (Tree l)) rest-apart front back front2 back2 b b2 s.0 s2.0 x s.1
         x2 s2.1 (sym e ∙ e2) in
-        one_body b b2 i j is js back2
-        (one_h front2 b b2 (subst (λ (w : Tokens). Tree h w b) w.0 x) x2) (one_links is js)
+        one-body b b2 i j is js back2
+        (one_h front2 b b2 (subst (λ (w : Tokens). Tree h w b) w.0 x) x2) (one-links is js)
         (subst (Body b i is) w.1 r) r2
 
   -- a list is not a piece of both branches
@@ -189,27 +189,27 @@ module _ {X : Type 0} {Sem : X → Type 0} (kid_starts : X → Token → Bool)
   cross g h l (t ∷ d) a b x z = l.3 t (first g t d a x) (first h t d b z)
 
   -- the tokens are a piece of the grammar with one tree at most
-  pub one_tree : {A : Type 0} (g : G X Sem A) → OneToken g → (d : Tokens) (a b : A) → Tree g d a
+  pub one-tree : {A : Type 0} (g : G X Sem A) → OneToken g → (d : Tokens) (a b : A) → Tree g d a
       → Tree g d b → a ≡ b
-  one_tree (ret v) l d a b x z = x.1 ∙ sym z.1
-  one_tree (tok begins look f) l d a b (t, is, h, p) (u, is2, h2, q) = let e : t ≡ u = cc in
+  one-tree (ret v) l d a b x z = x.1 ∙ sym z.1
+  one-tree (tok begins look f) l d a b (t, is, h, p) (u, is2, h2, q) = let e : t ≡ u = cc in
       p ∙ ap f e ∙ sym q
-  one_tree (both f g h) l d a b (d1, d2, b1, c1, is, x, z, p) (f1, f2, b2, c2, is2, x2, z2, q) =
+  one-tree (both f g h) l d a b (d1, d2, b1, c1, is, x, z, p) (f1, f2, b2, c2, is2, x2, z2, q) =
       let w = cut (Tree g) (Tree h) l.2 d1 d2 f1 f2 b1 b2 c1 c2 x z x2 z2 (sym is ∙ is2) in
-      let u = one_tree g l.0 f1 b1 b2 (subst (λ (w : Tokens). Tree g w b1) w.0 x) x2 in
-      let v = one_tree h l.1 f2 c1 c2 (subst (λ (w : Tokens). Tree h w c1) w.1 z) z2 in
+      let u = one-tree g l.0 f1 b1 b2 (subst (λ (w : Tokens). Tree g w b1) w.0 x) x2 in
+      let v = one-tree h l.1 f2 c1 c2 (subst (λ (w : Tokens). Tree h w c1) w.1 z) z2 in
       p ∙ ap (λ y. f y c1) u ∙ ap (λ y. f b2 y) v ∙ sym q
-  one_tree (alt g h) l d a b (inl x) (inl z) = one_tree g l.0 d a b x z
-  one_tree (alt g h) l d a b (inr x) (inr z) = one_tree h l.1 d a b x z
-  one_tree (alt g h) l d a b (inl x) (inr z) = absurd (cross g h l d a b x z)
-  one_tree (alt g h) l d a b (inr x) (inl z) = absurd (cross g h l d b a z x)
-  one_tree (star f g) l d a b (bs, x, p) (cs, z, q) =
-      p ∙ ap f (one_each (Tree g) (λ b r. let u = empty g b r in absurd (cc (u, l.1))) l.2
-      (one_tree g l.0) bs cs d x z) ∙ sym q
-  one_tree (chain f u v h k l) o d a b (is, x, p) (js, z, q) =
-      p ∙ ap f (one_links u v h k l (λ _. o) (one_tree h o.0) (one_tree k o.1)
-      (one_tree l o.2) is js d x z) ∙ sym q
-  one_tree (made f g) l d a b (b1, x, p) (b2, z, q) = p ∙ ap f (one_tree g l d b1 b2 x z) ∙ sym q
-  one_tree (placed f g) l d a b (b1, x, p) (b2, z, q) =
-      p ∙ ap (λ y. f (place_of d) y) (one_tree g l.0 d b1 b2 x z) ∙ sym q
-  one_tree (kid y f) l d a b (c1, x, p) (c2, z, q) = p ∙ ap f (kid_one y d c1 c2 x z) ∙ sym q
+  one-tree (alt g h) l d a b (inl x) (inl z) = one-tree g l.0 d a b x z
+  one-tree (alt g h) l d a b (inr x) (inr z) = one-tree h l.1 d a b x z
+  one-tree (alt g h) l d a b (inl x) (inr z) = absurd (cross g h l d a b x z)
+  one-tree (alt g h) l d a b (inr x) (inl z) = absurd (cross g h l d b a z x)
+  one-tree (star f g) l d a b (bs, x, p) (cs, z, q) =
+      p ∙ ap f (one-each (Tree g) (λ b r. let u = empty g b r in absurd (cc (u, l.1))) l.2
+      (one-tree g l.0) bs cs d x z) ∙ sym q
+  one-tree (chain f u v h k l) o d a b (is, x, p) (js, z, q) =
+      p ∙ ap f (one-links u v h k l (λ _. o) (one-tree h o.0) (one-tree k o.1)
+      (one-tree l o.2) is js d x z) ∙ sym q
+  one-tree (made f g) l d a b (b1, x, p) (b2, z, q) = p ∙ ap f (one-tree g l d b1 b2 x z) ∙ sym q
+  one-tree (placed f g) l d a b (b1, x, p) (b2, z, q) =
+      p ∙ ap (λ y. f (place_of d) y) (one-tree g l.0 d b1 b2 x z) ∙ sym q
+  one-tree (kid y f) l d a b (c1, x, p) (c2, z, q) = p ∙ ap f (kid_one y d c1 c2 x z) ∙ sym q

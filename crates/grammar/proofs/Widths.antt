@@ -7,9 +7,9 @@ use Rattle.ir_lexer.specs.Spelling.{Text}
 use Rattle.grammar.specs.Looks.{all_digits, decimal, spells_width}
 
 -- more digits make no smaller number
-decimal_grows : (n : ℕ) (t : Text) → n ≤ decimal n t
-decimal_grows n [] = omega arith
-decimal_grows n (b ∷ t) = let later = decimal_grows (n * 10 + (b - 48)) t in omega arith
+decimal-grows : (n : ℕ) (t : Text) → n ≤ decimal n t
+decimal-grows n [] = omega arith
+decimal-grows n (b ∷ t) = let later = decimal-grows (n * 10 + (b - 48)) t in omega arith
 
 never : (a b : Bool) → b ≡ false → (a && b) ≡ false
 never true b e = e
@@ -19,13 +19,13 @@ past : (a limit : ℕ) → limit < a → nat_le a limit ≡ false
 past a limit less = grind arith
 
 -- a digit that makes the number too great spells no width, whatever follows
-pub too_wide : (n b : ℕ) (t : Text) → 16777215 < n * 10 + (b - 48) → spells_width n (b ∷ t) ≡ false
-too_wide n b t less =
-    let great = decimal_grows (n * 10 + (b - 48)) t in
+pub too-wide : (n b : ℕ) (t : Text) → 16777215 < n * 10 + (b - 48) → spells_width n (b ∷ t) ≡ false
+too-wide n b t less =
+    let great = decimal-grows (n * 10 + (b - 48)) t in
     never (all_digits (b ∷ t)) _ (past (decimal (n * 10 + (b - 48)) t) 16777215 (omega arith))
 
 -- the same, of the digit at a place
-pub too_wide_at : (ds : Text) (i n : ℕ) → i < length ds
+pub too-wide-at : (ds : Text) (i n : ℕ) → i < length ds
     → 16777215 < n * 10 + (slice_index_or ds i 0 - 48) → spells_width n (drop i ds) ≡ false
-too_wide_at ds i n inside less =
-    rw (drop-cons ds i 0) (too_wide n (slice_index_or ds i 0) (drop (suc i) ds) less)
+too-wide-at ds i n inside less =
+    rw (drop-cons ds i 0) (too-wide n (slice_index_or ds i 0) (drop (suc i) ds) less)

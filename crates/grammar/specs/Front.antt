@@ -55,7 +55,7 @@ pub record TooDeep (D : Lists) (ts rest : Tokens) : Type 0 where
   pub shallow : Shallow D front
 
 -- what the answer of a reader says
-abbrev pub Meets : {A : Type 0} → (Tokens → A → Type 0) → Lists → Tokens → Outcome A → Type 0
-Meets R D ts (done a rest) = Front R D ts a rest
-Meets R D ts (stop false rest) = Refused R D ts rest
-Meets R D ts (stop true rest) = TooDeep D ts rest
+abbrev pub IsExactAnswer : {A : Type 0} → (Tokens → A → Type 0) → Lists → Tokens → Outcome A → Type 0
+IsExactAnswer R D ts (done a rest) = Front R D ts a rest
+IsExactAnswer R D ts (stop false rest) = Refused R D ts rest
+IsExactAnswer R D ts (stop true rest) = TooDeep D ts rest

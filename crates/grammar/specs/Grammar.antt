@@ -79,9 +79,9 @@ place_of (t ∷ ts) = t.place
 -- ---- what a grammar derives
 
 -- pieces one after the other
-abbrev pub Each : {A : Type 0} → (Tokens → A → Type 0) → Tokens → List A → Type 0
-Each R ts [] = ts ≡ []
-Each R ts (a ∷ more) = (front back : Tokens) × (ts ≡ front ++ back) × R front a × Each R back more
+abbrev pub EachPiece : {A : Type 0} → (Tokens → A → Type 0) → Tokens → List A → Type 0
+EachPiece R ts [] = ts ≡ []
+EachPiece R ts (a ∷ more) = (front back : Tokens) × (ts ≡ front ++ back) × R front a × EachPiece R back more
 
 -- heads with bodies one after the other, of which one of the second kind is the last
 abbrev pub Links : {B C D I : Type 0} → (B → C → I) → (B → D → I) → (Tokens → B → Type 0)
@@ -103,7 +103,7 @@ module _ {X : Type 0} {Sem : X → Type 0} (Derived : (x : X) → Tokens → Sem
       (front back : Tokens) × (b : B) × (c : C) × (ts ≡ front ++ back)
       × Derives g front b × Derives h back c × (a ≡ f b c)
   Derives (alt g h) ts a = Derives g ts a ⊎ Derives h ts a
-  Derives (star {B = B} f g) ts a = (bs : List B) × Each (Derives g) ts bs × (a ≡ f bs)
+  Derives (star {B = B} f g) ts a = (bs : List B) × EachPiece (Derives g) ts bs × (a ≡ f bs)
   Derives (chain {I = I} f p q h k l) ts a =
       (is : List I) × Links p q (Derives h) (Derives k) (Derives l) ts is × (a ≡ f is)
   Derives (made {B = B} f g) ts a = (b : B) × Derives g ts b × (a ≡ f b)
@@ -138,7 +138,7 @@ module _ {X : Type 0} {Sem : X → Type 0} (Derived : (x : X) → Tokens → Sem
   Deep (alt g h) p = Deep g p ⊎ Deep h p
   Deep (star {B = B} f g) p =
       (front back : Tokens) × (bs : List B) × (p ≡ front ++ back)
-      × Each (Derives Derived g) front bs × Deep g back
+      × EachPiece (Derives Derived g) front bs × Deep g back
   Deep (chain f _ _ h k l) p =
       (n : ℕ) × DeepLinks (Derives Derived h) (Derives Derived k) (Derives Derived l) (Deep h)
       (Deep k) (Deep l) n p

@@ -50,11 +50,11 @@ handed_on source.Failed = Failed
 handed_on source.OutOfMemory = OutOfMemory
 
 -- `Failed` comes only where the count of faults rose, and never from a steady source
-abbrev pub HasCause : {A : Type 0} → Result A SyntaxStop → Source → Source → Type 0
-HasCause (Ok a) old new = Unit {0}
-HasCause (Err (At place c)) old new = Unit {0}
-HasCause (Err Failed) old new = Rose old.faults new.faults × (old.steady ≢ true)
-HasCause (Err OutOfMemory) old new = Unit {0}
+abbrev pub CallHasCause : {A : Type 0} → Result A SyntaxStop → Source → Source → Type 0
+CallHasCause (Ok a) old new = Unit {0}
+CallHasCause (Err (At place c)) old new = Unit {0}
+CallHasCause (Err Failed) old new = Rose old.faults new.faults × (old.steady ≢ true)
+CallHasCause (Err OutOfMemory) old new = Unit {0}
 
 -- no `advance` answered an error, unless the call handed it on
 abbrev pub GoesOn : {A : Type 0} → Result A SyntaxStop → Source → Source → Type 0
@@ -67,7 +67,7 @@ GoesOn (Err OutOfMemory) old new = Unit {0}
 pub record Kept {A : Type 0} (old : Source) (result : Result A SyntaxStop)
     (new : Source) : Type 0 where
   pub faults : old.faults ≤ new.faults
-  pub cause : HasCause result old new
+  pub cause : CallHasCause result old new
   pub origin : new.origin ≡ old.origin
   pub steady : old.steady ≡ true → new.steady ≡ true
   pub goes_on : GoesOn result old new

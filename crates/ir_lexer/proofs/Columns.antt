@@ -6,17 +6,17 @@ use Rattle.std.proofs.lemmas.List.{reverse-append}
 use Rattle.std.proofs.lemmas.Grind.{common_steps}
 use Rattle.ir_lexer.specs.Place.{line_at, column_at}
 
-pub line_more : (src : List ℕ) (i : ℕ) → i < length src
+pub line-more : (src : List ℕ) (i : ℕ) → i < length src
     → line_at src (i + 1) ≡ line_at src i + cond (nat_eq (get_or src i 0) 10) 1 0
-line_more src i h = grind (arith, common_steps)
+line-more src i h = grind (arith, common_steps)
 
-last_run : (p : ℕ → Bool) (xs : List ℕ) (x : ℕ)
+last-run : (p : ℕ → Bool) (xs : List ℕ) (x : ℕ)
     → suffix_len p (xs ++ x ∷ []) ≡ cond (p x) (1 + suffix_len p xs) 0
-last_run p xs x = simp reverse-append refl
+last-run p xs x = simp reverse-append refl
 
-pub column_more : (src : List ℕ) (i : ℕ) → i < length src
+pub column-more : (src : List ℕ) (i : ℕ) → i < length src
     → column_at src (i + 1) ≡ cond (nat_eq (get_or src i 0) 10) 1 (column_at src i + 1)
-column_more src i h =
-    rw (add-one, take-suc src i 0 h, last_run) (grind (arith, common_steps))
+column-more src i h =
+    rw (add-one, take-suc src i 0 h, last-run) (grind (arith, common_steps))
 
-pub ruleset columns = (line_more, column_more)
+pub ruleset columns = (line-more, column-more)

@@ -7,7 +7,7 @@ use Rattle.ir_lexer.specs.declared.table.TheConstants.{START}
 use Rattle.ir_lexer.specs.Spelling.{Text, Spells}
 use Rattle.ir_lexer.specs.Tokens.{NoneFrom, IsLongest, IsFront}
 use Rattle.ir_lexer.specs.Scan.{step, is_whole, class_at, scan, front}
-use Rattle.ir_lexer.proofs.Machine.{run, run_dead, accepted, spelled}
+use Rattle.ir_lexer.proofs.Machine.{run, run-dead, accepted, spelled}
 
 -- no more than n bytes lead to a whole state
 abbrev pub NoWhole : ℕ → ℕ → Text → Type 0
@@ -19,112 +19,112 @@ pub data Finds (s whole end at : ℕ) (t : Text) (r : ℕ × ℕ) : Type 0 where
   some : (n : ℕ) → (0 < n) × (n ≤ length t) → r ≡ (run s (take n t), at + n)
       → is_whole (run s (take n t)) ≡ true → NoWhole s n t → Finds s whole end at t r
 
-none_at_dead : (s b : ℕ) (t : Text) → step s b ≡ 0 → NoWhole s 0 (b ∷ t)
+none-at-dead : (s b : ℕ) (t : Text) → step s b ≡ 0 → NoWhole s 0 (b ∷ t)
 unfolding is_whole
-none_at_dead s b t e zero h k = absurd (omega arith)
-none_at_dead s b t e (suc m) h k =
-    ap (λ x. is_whole (run x (take m t))) e ∙ ap is_whole (run_dead (take m t))
+none-at-dead s b t e zero h k = absurd (omega arith)
+none-at-dead s b t e (suc m) h k =
+    ap (λ x. is_whole (run x (take m t))) e ∙ ap is_whole (run-dead (take m t))
 
-none_behind : (s b n : ℕ) (t : Text) → NoWhole (step s b) n t → NoWhole s (suc n) (b ∷ t)
-none_behind s b n t f zero h k = absurd (omega arith)
-none_behind s b n t f (suc m) h k = f m (omega arith) (omega arith)
+none-behind : (s b n : ℕ) (t : Text) → NoWhole (step s b) n t → NoWhole s (suc n) (b ∷ t)
+none-behind s b n t f zero h k = absurd (omega arith)
+none-behind s b n t f (suc m) h k = f m (omega arith) (omega arith)
 
-none_here : (s b : ℕ) (t : Text) → is_whole (step s b) ≡ false → NoWhole (step s b) 0 t
+none-here : (s b : ℕ) (t : Text) → is_whole (step s b) ≡ false → NoWhole (step s b) 0 t
     → NoWhole s 0 (b ∷ t)
-none_here s b t e f zero h k = absurd (omega arith)
-none_here s b t e f (suc zero) h k = e
-none_here s b t e f (suc (suc m)) h k = f (suc m) (omega arith) (omega arith)
+none-here s b t e f zero h k = absurd (omega arith)
+none-here s b t e f (suc zero) h k = e
+none-here s b t e f (suc (suc m)) h k = f (suc m) (omega arith) (omega arith)
 
-go_on : (s b whole end at : ℕ) (t : Text) (x y : ℕ) (r : ℕ × ℕ) (n : ℕ) → (0 < n) × (n ≤ length t)
+go-on : (s b whole end at : ℕ) (t : Text) (x y : ℕ) (r : ℕ × ℕ) (n : ℕ) → (0 < n) × (n ≤ length t)
     → r ≡ (run (step s b) (take n t), at + 1 + n) → is_whole (run (step s b) (take n t)) ≡ true
     → NoWhole (step s b) n t → Finds s whole end at (b ∷ t) r
-go_on s b whole end at t x y r n w e i f =
+go-on s b whole end at t x y r n w e i f =
     let same : at + 1 + n ≡ at + suc n = omega arith in
     some (suc n) (omega arith, omega arith) (e ∙ ap (λ z. (run (step s b) (take n t), z)) same) i
-    (none_behind s b n t f)
+    (none-behind s b n t f)
 
-at_byte : (s b whole end at : ℕ) (t : Text) (dead here : Bool) (r1 r2 : ℕ × ℕ)
+at-byte : (s b whole end at : ℕ) (t : Text) (dead here : Bool) (r1 r2 : ℕ × ℕ)
     → (step s b == 0) ≡ dead → is_whole (step s b) ≡ here
     → Finds (step s b) (step s b) (at + 1) (at + 1) t r1 → Finds (step s b) whole end (at + 1) t r2
     → Finds s whole end at (b ∷ t) (if dead then (whole, end) else (if here then r1 else r2))
-at_byte s b whole end at t true here r1 r2 d h f g = none refl (none_at_dead s b t (eqb-true _ _ d))
-at_byte s b whole end at t false true r1 r2 d h (none e f) g =
-    some 1 (lit< tt, omega arith) e h (none_behind s b 0 t f)
-at_byte s b whole end at t false true r1 r2 d h (some n w e i f) g =
-    go_on s b whole end at t 0 0 r1 n w e i f
-at_byte s b whole end at t false false r1 r2 d h f (none e g) = none e (none_here s b t h g)
-at_byte s b whole end at t false false r1 r2 d h f (some n w e i g) =
-    go_on s b whole end at t 0 0 r2 n w e i g
+at-byte s b whole end at t true here r1 r2 d h f g = none refl (none-at-dead s b t (eqb-true _ _ d))
+at-byte s b whole end at t false true r1 r2 d h (none e f) g =
+    some 1 (lit< tt, omega arith) e h (none-behind s b 0 t f)
+at-byte s b whole end at t false true r1 r2 d h (some n w e i f) g =
+    go-on s b whole end at t 0 0 r1 n w e i f
+at-byte s b whole end at t false false r1 r2 d h f (none e g) = none e (none-here s b t h g)
+at-byte s b whole end at t false false r1 r2 d h f (some n w e i g) =
+    go-on s b whole end at t 0 0 r2 n w e i g
 
 pub finds : (t : Text) (s whole end at : ℕ) → Finds s whole end at t (scan s whole end at t)
 finds [] s whole end at = none refl (λ m h k. absurd (omega arith))
 finds (b ∷ t) s whole end at =
-    at_byte s b whole end at t (step s b == 0) (is_whole (step s b)) _ _ refl refl
+    at-byte s b whole end at t (step s b == 0) (is_whole (step s b)) _ _ refl refl
     (finds t (step s b) (step s b) (at + 1) (at + 1)) (finds t (step s b) whole end (at + 1))
 
 -- where no prefix leads to a whole state, none spells a class
-none_spells : (n : ℕ) (t : Text) → NoWhole START n t → NoneFrom (n + 1) t
-none_spells n t f m class h k g = absurd (cc (f m (omega arith) k, (accepted class (take m t) g).0))
+none-spells : (n : ℕ) (t : Text) → NoWhole START n t → NoneFrom (n + 1) t
+none-spells n t f m class h k g = absurd (cc (f m (omega arith) k, (accepted class (take m t) g).0))
 
-pub none_empty : (class : Class) → Spells class [] → ⊥
+pub none-empty : (class : Class) → Spells class [] → ⊥
 unfolding is_whole
-none_empty class g = absurd (cc (accepted class [] g).0)
+none-empty class g = absurd (cc (accepted class [] g).0)
 
-none_at_all : (t : Text) → NoWhole START 0 t → NoneFrom 0 t
-none_at_all t f zero class h k g = none_empty class g
-none_at_all t f (suc m) class h k g = none_spells 0 t f (suc m) class (omega arith) k g
+none-at-all : (t : Text) → NoWhole START 0 t → NoneFrom 0 t
+none-at-all t f zero class h k g = none-empty class g
+none-at-all t f (suc m) class h k g = none-spells 0 t f (suc m) class (omega arith) k g
 
-longest_of : (t : Text) (n : ℕ) → (0 < n) × (n ≤ length t) → is_whole (run START (take n t)) ≡ true
+longest-of : (t : Text) (n : ℕ) → (0 < n) × (n ≤ length t) → is_whole (run START (take n t)) ≡ true
     → NoWhole START n t → IsLongest t (class_at (run START (take n t))) n
-longest_of t n w i f =
-    record { within = w; spelled = spelled (take n t) i; longest = none_spells n t f }
+longest-of t n w i f =
+    record { within = w; spelled = spelled (take n t) i; longest = none-spells n t f }
 
-front_of : (b : ℕ) (t : Text) (r : ℕ × ℕ) → Finds START 0 1 0 (b ∷ t) r
+front-of : (b : ℕ) (t : Text) (r : ℕ × ℕ) → Finds START 0 1 0 (b ∷ t) r
     → IsFront (b ∷ t) (class_at r.0) r.1
 unfolding IsFront class_at
-front_of b t r (none e f) = inr (ap (λ x. class_at x.0) e, ap (λ x. x.1) e, none_at_all (b ∷ t) f)
-front_of b t r (some n w e i f) =
+front-of b t r (none e f) = inr (ap (λ x. class_at x.0) e, ap (λ x. x.1) e, none-at-all (b ∷ t) f)
+front-of b t r (some n w e i f) =
     let is : (run START (take n (b ∷ t)), n) ≡ r =
-    sym (e ∙ ap (λ z. (run START (take n (b ∷ t)), z)) zero_plus) in
-    inl (subst (λ x. IsLongest (b ∷ t) (class_at x.0) x.1) is (longest_of (b ∷ t) n w i f))
+    sym (e ∙ ap (λ z. (run START (take n (b ∷ t)), z)) zero-plus) in
+    inl (subst (λ x. IsLongest (b ∷ t) (class_at x.0) x.1) is (longest-of (b ∷ t) n w i f))
   where
-    zero_plus : 0 + n ≡ n
-    zero_plus = omega arith
+    zero-plus : 0 + n ≡ n
+    zero-plus = omega arith
 
-pub is_front : (t : Text) → IsFront t (front t).0 (front t).1
+pub is-front : (t : Text) → IsFront t (front t).0 (front t).1
 unfolding front IsFront
-is_front [] = (refl, refl)
-is_front (b ∷ t) = front_of b t (scan START 0 1 0 (b ∷ t)) (finds (b ∷ t) START 0 1 0)
+is-front [] = (refl, refl)
+is-front (b ∷ t) = front-of b t (scan START 0 1 0 (b ∷ t)) (finds (b ∷ t) START 0 1 0)
 
 -- ---- for the loop
 
-pub scan_end : (t : Text) (s whole end at : ℕ) → length t ≤ at
+pub scan-end : (t : Text) (s whole end at : ℕ) → length t ≤ at
     → scan s whole end at (drop at t) ≡ (whole, end)
-scan_end t s whole end at h = rw (drop_of_length-le t {i = at} h) refl
+scan-end t s whole end at h = rw (drop_of_length-le t {i = at} h) refl
 
-pub scan_dead : (t : Text) (s whole end at : ℕ) → at < length t → step s (get_or t at 0) ≡ 0
+pub scan-dead : (t : Text) (s whole end at : ℕ) → at < length t → step s (get_or t at 0) ≡ 0
     → scan s whole end at (drop at t) ≡ (whole, end)
-scan_dead t s whole end at h e = rw (drop-cons t at 0, e) refl
+scan-dead t s whole end at h e = rw (drop-cons t at 0, e) refl
 
-pub front_end : (t : Text) → length t ≡ 0 → (c.End, 0) ≡ front t
+pub front-end : (t : Text) → length t ≡ 0 → (c.End, 0) ≡ front t
 unfolding front
-front_end [] e = refl
-front_end (b ∷ t) e = absurd (cc)
+front-end [] e = refl
+front-end (b ∷ t) e = absurd (cc)
 
-pub front_found : (t : Text) (whole end : ℕ) → (length t ≡ 0 → ⊥)
+pub front-found : (t : Text) (whole end : ℕ) → (length t ≡ 0 → ⊥)
     → (whole, end) ≡ scan START 0 1 0 t → (class_at whole, end) ≡ front t
 unfolding front
-front_found [] whole end h e = absurd (h refl)
-front_found (b ∷ t) whole end h e = ap (λ r. (class_at r.0, r.1)) e
+front-found [] whole end h e = absurd (h refl)
+front-found (b ∷ t) whole end h e = ap (λ r. (class_at r.0, r.1)) e
 
-pub run_end : (t : Text) (s at : ℕ) → length t ≤ at → run s (drop at t) ≡ s
-run_end t s at h = rw (drop_of_length-le t {i = at} h) refl
+pub run-end : (t : Text) (s at : ℕ) → length t ≤ at → run s (drop at t) ≡ s
+run-end t s at h = rw (drop_of_length-le t {i = at} h) refl
 
 -- the whole text spells the class of the state to which it leads, and no other
-pub spells_where : (t : Text) (s : ℕ) (class : Class) → s ≡ run START t → is_whole s ≡ true
+pub spells-where : (t : Text) (s : ℕ) (class : Class) → s ≡ run START t → is_whole s ≡ true
     → class ≡ class_at s
     → (other : Class) → (Some class ≡ Some other) ↔ Spells other t
-spells_where t s class e w is other = (
+spells-where t s class e w is other = (
   λ f. let same : class ≡ other = cc f in subst (λ x. Spells x t) same whole,
   λ f. ap (λ x. Some x) (is ∙ ap class_at e ∙ (accepted other t f).1),
 )
@@ -133,9 +133,9 @@ spells_where t s class e w is other = (
     whole = subst (λ x. Spells x t) (sym (is ∙ ap class_at e)) (spelled t (sym (ap is_whole e) ∙ w))
 
 -- it spells none where that state isn't whole
-pub spells_none : (t : Text) (s : ℕ) → s ≡ run START t → is_whole s ≡ false → (other : Class)
+pub spells-none : (t : Text) (s : ℕ) → s ≡ run START t → is_whole s ≡ false → (other : Class)
     → (None ≡ Some other) ↔ Spells other t
-spells_none t s e w other = (
+spells-none t s e w other = (
   λ f. absurd (cc f),
   λ f. absurd (cc ((accepted other t f).0, ap is_whole e, w)),
 )

@@ -17,7 +17,7 @@ use Rattle.ir_lexer.specs.declared.class.Class.TheVariants as c
 use Rattle.ir_lexer.specs.declared.table.TheConstants.{COLUMN, COLUMNS, STATES, START}
 use Rattle.ir_lexer.specs.Spelling.{Text, Spelling, never, empty, between, both, either, many, Fits, Spells, spelling}
 use Rattle.ir_lexer.specs.Scan.{column, next, step, is_whole, class_at, same_class}
-use Rattle.ir_lexer.proofs.Derive.{takes_none, behind, behind_all, is_alike, same_truth, same_truth_is, and_left, and_right, and_both, behind_alike, alike_behind_all, none_in, none_out, behind_in, behind_out}
+use Rattle.ir_lexer.proofs.Derive.{takes_none, behind, behind_all, is_alike, same_truth, same-truth-is, and-left, and-right, and-both, behind-alike, alike-behind-all, none-in, none-out, behind-in, behind-out}
 
 -- ---- the tests that compute
 
@@ -74,15 +74,15 @@ steps_at s class k = same (behind (get_or samples k 0) (left s class)) (left (ne
 abbrev pub row_steps : ℕ → Bool
 row_steps s = list_all (λ class. upto COLUMNS (steps_at s class)) classes
 
-steps_right : upto STATES row_steps ≡ true
-steps_right = refl
+steps-right : upto STATES row_steps ≡ true
+steps-right = refl
 
 -- a row leads to states of the table
 abbrev pub row_within : ℕ → Bool
 row_within s = upto COLUMNS (λ k. nat_lt (next s k) STATES)
 
-steps_within : upto STATES row_within ≡ true
-steps_within = refl
+steps-within : upto STATES row_within ≡ true
+steps-within = refl
 
 -- no class tells a byte from the sample of its column
 abbrev pub sample_like : ℕ → Class → Bool
@@ -91,11 +91,11 @@ sample_like b class = is_alike b (get_or samples (column b) 0) (spelling class)
 abbrev pub column_like : ℕ → Bool
 column_like b = list_all (sample_like b) classes
 
-columns_right : upto 256 column_like ≡ true
-columns_right = refl
+columns-right : upto 256 column_like ≡ true
+columns-right = refl
 
-columns_within : upto 256 (λ b. nat_lt (column b) COLUMNS) ≡ true
-columns_within = refl
+columns-within : upto 256 (λ b. nat_lt (column b) COLUMNS) ≡ true
+columns-within = refl
 
 -- no number past a byte stands in a spelling, nor does a line feed, the sample of column 0
 abbrev pub avoids : Spelling → Bool
@@ -106,8 +106,8 @@ avoids (both r s) = avoids r && avoids s
 avoids (either r s) = avoids r && avoids s
 avoids (many r) = avoids r
 
-all_avoid : list_all (λ class. avoids (spelling class)) classes ≡ true
-all_avoid = refl
+all-avoid : list_all (λ class. avoids (spelling class)) classes ≡ true
+all-avoid = refl
 
 -- a state leaves nothing open where it is whole, for its own class alone
 abbrev pub whole_at : ℕ → Class → Bool
@@ -117,129 +117,129 @@ whole_at s class =
 abbrev pub row_whole : ℕ → Bool
 row_whole s = list_all (whole_at s) classes
 
-wholes_right : upto STATES row_whole ≡ true
+wholes-right : upto STATES row_whole ≡ true
 unfolding is_whole same_class class_at
-wholes_right = refl
+wholes-right = refl
 
-dead_stays : upto COLUMNS (λ k. nat_eq (next 0 k) 0) ≡ true
-dead_stays = refl
+dead-stays : upto COLUMNS (λ k. nat_eq (next 0 k) 0) ≡ true
+dead-stays = refl
 
 -- ---- what these tests say of any state, class and byte
 
-pub same_is : (r s : Spelling) → same r s ≡ true → r ≡ s
-same_is never never e = refl
-same_is empty empty e = refl
-same_is (between a b) (between x y) e =
-    let first : a ≡ x = eqb-true _ _ (and_left (eqb a x) (eqb b y) e) in
-    let second : b ≡ y = eqb-true _ _ (and_right (eqb a x) (eqb b y) e) in
+pub same-is : (r s : Spelling) → same r s ≡ true → r ≡ s
+same-is never never e = refl
+same-is empty empty e = refl
+same-is (between a b) (between x y) e =
+    let first : a ≡ x = eqb-true _ _ (and-left (eqb a x) (eqb b y) e) in
+    let second : b ≡ y = eqb-true _ _ (and-right (eqb a x) (eqb b y) e) in
     cc
-same_is (both r s) (both x y) e =
-    let first : r ≡ x = same_is r x (and_left (same r x) (same s y) e) in
-    let second : s ≡ y = same_is s y (and_right (same r x) (same s y) e) in
+same-is (both r s) (both x y) e =
+    let first : r ≡ x = same-is r x (and-left (same r x) (same s y) e) in
+    let second : s ≡ y = same-is s y (and-right (same r x) (same s y) e) in
     cc
-same_is (either r s) (either x y) e =
-    let first : r ≡ x = same_is r x (and_left (same r x) (same s y) e) in
-    let second : s ≡ y = same_is s y (and_right (same r x) (same s y) e) in
+same-is (either r s) (either x y) e =
+    let first : r ≡ x = same-is r x (and-left (same r x) (same s y) e) in
+    let second : s ≡ y = same-is s y (and-right (same r x) (same s y) e) in
     cc
-same_is (many r) (many x) e = ap (λ z. many z) (same_is r x e)
-same_is _ _ e = absurd (cc)
+same-is (many r) (many x) e = ap (λ z. many z) (same-is r x e)
+same-is _ _ e = absurd (cc)
 
 pub below : (n : ℕ) (p : ℕ → Bool) → upto n p ≡ true → (k : ℕ) → k < n → p k ≡ true
 below zero p e k h = absurd (omega arith)
-below (suc n) p e k h = elim (last_or n k h) [
-  | inl less ↦ below n p (and_left _ _ e) k less
-  | inr is ↦ rw is (and_right _ _ e)
+below (suc n) p e k h = elim (last-or n k h) [
+  | inl less ↦ below n p (and-left _ _ e) k less
+  | inr is ↦ rw is (and-right _ _ e)
 ]
   where
-    last_or : (n k : ℕ) → k < suc n → (k < n) ⊎ (k ≡ n)
-    last_or n k h = grind arith
+    last-or : (n k : ℕ) → k < suc n → (k < n) ⊎ (k ≡ n)
+    last-or n k h = grind arith
 
-at_place : (f : Class → Bool) → list_all f classes ≡ true → (k : ℕ) → k < 30
+at-place : (f : Class → Bool) → list_all f classes ≡ true → (k : ℕ) → k < 30
     → f (get_or classes k c.Bad) ≡ true
-at_place f e k h = AllPass-from_list_all f classes e k c.Bad h
+at-place f e k h = AllPass-from_list_all f classes e k c.Bad h
 
 pub every : (f : Class → Bool) → list_all f classes ≡ true → (class : Class) → f class ≡ true
-every f e c.Word = at_place f e 0 (lit< tt)
-every f e c.Integer = at_place f e 1 (lit< tt)
-every f e c.Float = at_place f e 2 (lit< tt)
-every f e c.Dims = at_place f e 3 (lit< tt)
-every f e c.Str = at_place f e 4 (lit< tt)
-every f e c.ValueName = at_place f e 5 (lit< tt)
-every f e c.BlockName = at_place f e 6 (lit< tt)
-every f e c.SymbolName = at_place f e 7 (lit< tt)
-every f e c.TypeName = at_place f e 8 (lit< tt)
-every f e c.AttrName = at_place f e 9 (lit< tt)
-every f e c.ResultNumber = at_place f e 10 (lit< tt)
-every f e c.Colon = at_place f e 11 (lit< tt)
-every f e c.ColonColon = at_place f e 12 (lit< tt)
-every f e c.Comma = at_place f e 13 (lit< tt)
-every f e c.Equal = at_place f e 14 (lit< tt)
-every f e c.Less = at_place f e 15 (lit< tt)
-every f e c.Greater = at_place f e 16 (lit< tt)
-every f e c.LParen = at_place f e 17 (lit< tt)
-every f e c.RParen = at_place f e 18 (lit< tt)
-every f e c.LBrace = at_place f e 19 (lit< tt)
-every f e c.RBrace = at_place f e 20 (lit< tt)
-every f e c.LSquare = at_place f e 21 (lit< tt)
-every f e c.RSquare = at_place f e 22 (lit< tt)
-every f e c.Arrow = at_place f e 23 (lit< tt)
-every f e c.Minus = at_place f e 24 (lit< tt)
-every f e c.Question = at_place f e 25 (lit< tt)
-every f e c.Plus = at_place f e 26 (lit< tt)
-every f e c.Star = at_place f e 27 (lit< tt)
-every f e c.Bad = at_place f e 28 (lit< tt)
-every f e c.End = at_place f e 29 (lit< tt)
+every f e c.Word = at-place f e 0 (lit< tt)
+every f e c.Integer = at-place f e 1 (lit< tt)
+every f e c.Float = at-place f e 2 (lit< tt)
+every f e c.Dims = at-place f e 3 (lit< tt)
+every f e c.Str = at-place f e 4 (lit< tt)
+every f e c.ValueName = at-place f e 5 (lit< tt)
+every f e c.BlockName = at-place f e 6 (lit< tt)
+every f e c.SymbolName = at-place f e 7 (lit< tt)
+every f e c.TypeName = at-place f e 8 (lit< tt)
+every f e c.AttrName = at-place f e 9 (lit< tt)
+every f e c.ResultNumber = at-place f e 10 (lit< tt)
+every f e c.Colon = at-place f e 11 (lit< tt)
+every f e c.ColonColon = at-place f e 12 (lit< tt)
+every f e c.Comma = at-place f e 13 (lit< tt)
+every f e c.Equal = at-place f e 14 (lit< tt)
+every f e c.Less = at-place f e 15 (lit< tt)
+every f e c.Greater = at-place f e 16 (lit< tt)
+every f e c.LParen = at-place f e 17 (lit< tt)
+every f e c.RParen = at-place f e 18 (lit< tt)
+every f e c.LBrace = at-place f e 19 (lit< tt)
+every f e c.RBrace = at-place f e 20 (lit< tt)
+every f e c.LSquare = at-place f e 21 (lit< tt)
+every f e c.RSquare = at-place f e 22 (lit< tt)
+every f e c.Arrow = at-place f e 23 (lit< tt)
+every f e c.Minus = at-place f e 24 (lit< tt)
+every f e c.Question = at-place f e 25 (lit< tt)
+every f e c.Plus = at-place f e 26 (lit< tt)
+every f e c.Star = at-place f e 27 (lit< tt)
+every f e c.Bad = at-place f e 28 (lit< tt)
+every f e c.End = at-place f e 29 (lit< tt)
 
-near_or_far : (b : ℕ) → (b < 256) ⊎ (256 ≤ b)
-near_or_far b = grind arith
+near-or-far : (b : ℕ) → (b < 256) ⊎ (256 ≤ b)
+near-or-far b = grind arith
 
-alike_range : (b low high : ℕ) → 256 ≤ b → high < 256 → not (nat_le low 10 && nat_le 10 high) ≡ true
+alike-range : (b low high : ℕ) → 256 ≤ b → high < 256 → not (nat_le low 10 && nat_le 10 high) ≡ true
     → same_truth (nat_le low b && nat_le b high) (nat_le low 10 && nat_le 10 high) ≡ true
-alike_range b low high far h e =
+alike-range b low high far h e =
     let beyond : nat_le b high ≡ false = lt-leb b high (omega arith) in
-    rw beyond (both_false (nat_le low b) (nat_le low 10 && nat_le 10 high) e)
+    rw beyond (both-false (nat_le low b) (nat_le low 10 && nat_le 10 high) e)
   where
-    both_false : (x y : Bool) → not y ≡ true → same_truth (x && false) y ≡ true
-    both_false true y e = e
-    both_false false y e = e
+    both-false : (x y : Bool) → not y ≡ true → same_truth (x && false) y ≡ true
+    both-false true y e = e
+    both-false false y e = e
 
-pub column_within : (b : ℕ) → column b < COLUMNS
-column_within b = elim (near_or_far b) [
-  | inl near ↦ ltb-true _ _ (below 256 (λ x. nat_lt (column x) COLUMNS) columns_within b near)
+pub column-within : (b : ℕ) → column b < COLUMNS
+column-within b = elim (near-or-far b) [
+  | inl near ↦ ltb-true _ _ (below 256 (λ x. nat_lt (column x) COLUMNS) columns-within b near)
   | inr far ↦ rw (get_or_past COLUMN b 0 far) (lit< tt)
 ]
 
-alike_far : (b : ℕ) → 256 ≤ b → (r : Spelling) → avoids r ≡ true → is_alike b 10 r ≡ true
-alike_far b far never e = refl
-alike_far b far empty e = refl
-alike_far b far (between low high) e =
-    alike_range b low high far (ltb-true _ _ (and_left (nat_lt high 256) _ e))
-    (and_right (nat_lt high 256) _ e)
-alike_far b far (both r s) e =
-    and_both _ _ (alike_far b far r (and_left _ _ e)) (alike_far b far s (and_right _ _ e))
-alike_far b far (either r s) e =
-    and_both _ _ (alike_far b far r (and_left _ _ e)) (alike_far b far s (and_right _ _ e))
-alike_far b far (many r) e = alike_far b far r e
+alike-far : (b : ℕ) → 256 ≤ b → (r : Spelling) → avoids r ≡ true → is_alike b 10 r ≡ true
+alike-far b far never e = refl
+alike-far b far empty e = refl
+alike-far b far (between low high) e =
+    alike-range b low high far (ltb-true _ _ (and-left (nat_lt high 256) _ e))
+    (and-right (nat_lt high 256) _ e)
+alike-far b far (both r s) e =
+    and-both _ _ (alike-far b far r (and-left _ _ e)) (alike-far b far s (and-right _ _ e))
+alike-far b far (either r s) e =
+    and-both _ _ (alike-far b far r (and-left _ _ e)) (alike-far b far s (and-right _ _ e))
+alike-far b far (many r) e = alike-far b far r e
 
-pub like_sample : (b : ℕ) (class : Class) → sample_like b class ≡ true
-like_sample b class = elim (near_or_far b) [
-  | inl near ↦ every (sample_like b) (below 256 column_like columns_right b near) class
-  | inr far ↦ rw (get_or_past COLUMN b 0 far) (alike_far b far (spelling class) (avoided class))
+pub like-sample : (b : ℕ) (class : Class) → sample_like b class ≡ true
+like-sample b class = elim (near-or-far b) [
+  | inl near ↦ every (sample_like b) (below 256 column_like columns-right b near) class
+  | inr far ↦ rw (get_or_past COLUMN b 0 far) (alike-far b far (spelling class) (avoided class))
 ]
   where
     avoided : (class : Class) → avoids (spelling class) ≡ true
-    avoided class = every (λ x. avoids (spelling x)) all_avoid class
+    avoided class = every (λ x. avoids (spelling x)) all-avoid class
 
-pub step_right : (s b : ℕ) (class : Class) → s < STATES
+pub step-right : (s b : ℕ) (class : Class) → s < STATES
     → behind b (left s class) ≡ left (next s (column b)) class
-step_right s b class h =
+step-right s b class h =
     let k = column b in
     let like : is_alike b (get_or samples k 0) (left s class) ≡ true =
-    alike_behind_all b _ (get_or ways s []) (spelling class) (like_sample b class) in
+    alike-behind-all b _ (get_or ways s []) (spelling class) (like-sample b class) in
     let row : upto COLUMNS (steps_at s class) ≡ true =
-    every (λ x. upto COLUMNS (steps_at s x)) (below STATES row_steps steps_right s h) class in
-    behind_alike b (get_or samples k 0) (left s class) like
-    ∙ same_is _ _ (below COLUMNS (steps_at s class) row k (column_within b))
+    every (λ x. upto COLUMNS (steps_at s x)) (below STATES row_steps steps-right s h) class in
+    behind-alike b (get_or samples k 0) (left s class) like
+    ∙ same-is _ _ (below COLUMNS (steps_at s class) row k (column-within b))
 
 -- ---- runs of the table
 
@@ -247,46 +247,46 @@ abbrev pub run : ℕ → Text → ℕ
 run s [] = s
 run s (b ∷ t) = run (step s b) t
 
-pub step_within : (s b : ℕ) → s < STATES → step s b < STATES
+pub step-within : (s b : ℕ) → s < STATES → step s b < STATES
 unfolding step
-step_within s b h =
-    let row : row_within s ≡ true = below STATES row_within steps_within s h in
-    ltb-true _ _ (below COLUMNS (λ k. nat_lt (next s k) STATES) row (column b) (column_within b))
+step-within s b h =
+    let row : row_within s ≡ true = below STATES row_within steps-within s h in
+    ltb-true _ _ (below COLUMNS (λ k. nat_lt (next s k) STATES) row (column b) (column-within b))
 
-pub run_within : (t : Text) (s : ℕ) → s < STATES → run s t < STATES
-run_within [] s h = h
-run_within (b ∷ t) s h = run_within t (step s b) (step_within s b h)
+pub run-within : (t : Text) (s : ℕ) → s < STATES → run s t < STATES
+run-within [] s h = h
+run-within (b ∷ t) s h = run-within t (step s b) (step-within s b h)
 
-step_left : (s b : ℕ) (class : Class) → s < STATES → behind b (left s class) ≡ left (step s b) class
+step-left : (s b : ℕ) (class : Class) → s < STATES → behind b (left s class) ≡ left (step s b) class
 unfolding step
-step_left s b class h = step_right s b class h
+step-left s b class h = step-right s b class h
 
-run_in : (t : Text) (s : ℕ) (class : Class) → s < STATES → Fits (left s class) t
+run-in : (t : Text) (s : ℕ) (class : Class) → s < STATES → Fits (left s class) t
     → takes_none (left (run s t) class) ≡ true
-run_in [] s class h f = none_out (left s class) f
-run_in (b ∷ t) s class h f =
-    run_in t (step s b) class (step_within s b h)
-    (subst (λ r. Fits r t) (step_left s b class h) (behind_in (left s class) b t f))
+run-in [] s class h f = none-out (left s class) f
+run-in (b ∷ t) s class h f =
+    run-in t (step s b) class (step-within s b h)
+    (subst (λ r. Fits r t) (step-left s b class h) (behind-in (left s class) b t f))
 
-run_out : (t : Text) (s : ℕ) (class : Class) → s < STATES → takes_none (left (run s t) class) ≡ true
+run-out : (t : Text) (s : ℕ) (class : Class) → s < STATES → takes_none (left (run s t) class) ≡ true
     → Fits (left s class) t
-run_out [] s class h e = none_in (left s class) e
-run_out (b ∷ t) s class h e =
-    let rest : Fits (left (step s b) class) t = run_out t (step s b) class (step_within s b h) e in
-    behind_out (left s class) b t (subst (λ r. Fits r t) (sym (step_left s b class h)) rest)
+run-out [] s class h e = none-in (left s class) e
+run-out (b ∷ t) s class h e =
+    let rest : Fits (left (step s b) class) t = run-out t (step s b) class (step-within s b h) e in
+    behind-out (left s class) b t (subst (λ r. Fits r t) (sym (step-left s b class h)) rest)
 
-whole_is : (s : ℕ) (class : Class) → s < STATES
+whole-is : (s : ℕ) (class : Class) → s < STATES
     → takes_none (left s class) ≡ (is_whole s && same_class (class_at s) class)
-whole_is s class h =
-    same_truth_is _ _ (every (whole_at s) (below STATES row_whole wholes_right s h) class)
+whole-is s class h =
+    same-truth-is _ _ (every (whole_at s) (below STATES row_whole wholes-right s h) class)
 
-pub same_class_is : (a b : Class) → same_class a b ≡ true → a ≡ b
+pub same-class-is : (a b : Class) → same_class a b ≡ true → a ≡ b
 unfolding same_class
-same_class_is a b e = same_true the_type tt a b e
+same-class-is a b e = same_true the_type tt a b e
 
-pub same_class_refl : (a : Class) → same_class a a ≡ true
+pub same-class-refl : (a : Class) → same_class a a ≡ true
 unfolding same_class
-same_class_refl a = true_same the_type a a refl
+same-class-refl a = true_same the_type a a refl
 
 -- a text that spells a class leads to a whole state, of that class
 pub accepted : (class : Class) (t : Text) → Spells class t
@@ -295,8 +295,8 @@ unfolding Spells
 accepted class t f =
     let s = run START t in
     let e : (is_whole s && same_class (class_at s) class) ≡ true =
-    sym (whole_is s class (run_within t START (lit< tt))) ∙ run_in t START class (lit< tt) f in
-    (and_left _ _ e, same_class_is _ _ (and_right (is_whole s) _ e))
+    sym (whole-is s class (run-within t START (lit< tt))) ∙ run-in t START class (lit< tt) f in
+    (and-left _ _ e, same-class-is _ _ (and-right (is_whole s) _ e))
 
 -- and a text that leads to a whole state spells its class
 pub spelled : (t : Text) → is_whole (run START t) ≡ true → Spells (class_at (run START t)) t
@@ -304,15 +304,15 @@ unfolding Spells
 spelled t e =
     let s = run START t in
     let none : takes_none (left s (class_at s)) ≡ true =
-    whole_is s (class_at s) (run_within t START (lit< tt))
-    ∙ and_both _ _ e (same_class_refl (class_at s)) in
-    run_out t START (class_at s) (lit< tt) none
+    whole-is s (class_at s) (run-within t START (lit< tt))
+    ∙ and-both _ _ e (same-class-refl (class_at s)) in
+    run-out t START (class_at s) (lit< tt) none
 
-pub step_dead : (b : ℕ) → step 0 b ≡ 0
+pub step-dead : (b : ℕ) → step 0 b ≡ 0
 unfolding step
-step_dead b =
-    eqb-true _ _ (below COLUMNS (λ k. nat_eq (next 0 k) 0) dead_stays (column b) (column_within b))
+step-dead b =
+    eqb-true _ _ (below COLUMNS (λ k. nat_eq (next 0 k) 0) dead-stays (column b) (column-within b))
 
-pub run_dead : (t : Text) → run 0 t ≡ 0
-run_dead [] = refl
-run_dead (b ∷ t) = rw (step_dead b) (run_dead t)
+pub run-dead : (t : Text) → run 0 t ≡ 0
+run-dead [] = refl
+run-dead (b ∷ t) = rw (step-dead b) (run-dead t)

@@ -5,56 +5,56 @@ use Rattle.std.proofs.lemmas.List.Elements.{All-cons, All-nil}
 use Rattle.ir_lexer.specs.declared.class.Class.{Class}
 use Rattle.ir_lexer.specs.declared.class.Class.TheVariants as c
 use Rattle.ir_lexer.specs.Spelling.{Text, Spells}
-use Rattle.ir_lexer.specs.Tokens.{Token, layout_len, IsFront, IsNext, TokensFrom}
+use Rattle.ir_lexer.specs.Tokens.{Token, layout_len, IsFront, IsNext, AreTokensFrom}
 use Rattle.ir_lexer.specs.Scan.{next_token, tokens_from, tokens_behind, same_class}
 use Rattle.ir_lexer.specs.Source.{IsToken, Advances}
-use Rattle.ir_lexer.specs.Reading.{seen}
+use Rattle.ir_lexer.specs.Reading.{token_shown}
 use Rattle.ir_lexer.specs.declared.lexer.Token.{Token as Cut}
 use Rattle.ir_lexer.specs.Slice.{source_at, Tells}
-use Rattle.ir_lexer.proofs.Machine.{same_class_is}
-use Rattle.ir_lexer.proofs.Next.{is_next, moves, not_end, same_tokens, all_behind, front_within}
+use Rattle.ir_lexer.proofs.Machine.{same-class-is}
+use Rattle.ir_lexer.proofs.Next.{is_next, moves, not-end, same-tokens, all-behind, front-within}
 
-spelled_by : (r text : Text) (class : Class) (place : ℕ) → text ≡ take (length text) r
+spelled-by : (r text : Text) (class : Class) (place : ℕ) → text ≡ take (length text) r
     → IsFront r class (length text) → IsToken (record { class = class; text = text; place = place })
 unfolding IsFront
-spelled_by [] [] class place e f = inr (inr (f.0, refl))
-spelled_by [] (x ∷ text) class place e f = absurd (cc f.1)
-spelled_by (b ∷ r) text class place e (inl f) = inl (subst (Spells class) (sym e) f.spelled)
-spelled_by (b ∷ r) text class place e (inr f) = inr (inl (f.0, f.1))
+spelled-by [] [] class place e f = inr (inr (f.0, refl))
+spelled-by [] (x ∷ text) class place e f = absurd (cc f.1)
+spelled-by (b ∷ r) text class place e (inl f) = inl (subst (Spells class) (sym e) f.spelled)
+spelled-by (b ∷ r) text class place e (inr f) = inr (inl (f.0, f.1))
 
 spelled : (src : Text) (at : ℕ) (t : Token) → IsNext src at t → IsToken t
-spelled src at t n = spelled_by (drop t.place src) t.text t.class t.place n.text n.front
+spelled src at t n = spelled-by (drop t.place src) t.text t.class t.place n.text n.front
 
-all_spelled : (src : Text) (at : ℕ) (t : Token) (ts : List Token) → TokensFrom src at (t ∷ ts)
+all-spelled : (src : Text) (at : ℕ) (t : Token) (ts : List Token) → AreTokensFrom src at (t ∷ ts)
     → All IsToken (t ∷ ts)
-all_spelled src at t [] f = All-cons IsToken t [] (spelled src at t f.0) (All-nil IsToken)
-all_spelled src at t (u ∷ ts) f =
+all-spelled src at t [] f = All-cons IsToken t [] (spelled src at t f.0) (All-nil IsToken)
+all-spelled src at t (u ∷ ts) f =
     All-cons IsToken t (u ∷ ts) (spelled src at t f.0)
-    (all_spelled src (t.place + length t.text) u ts f.2)
+    (all-spelled src (t.place + length t.text) u ts f.2)
 
-later_spelled : (src : Text) (at : ℕ) (t : Token) (ts : List Token) → TokensFrom src at (t ∷ ts)
+later-spelled : (src : Text) (at : ℕ) (t : Token) (ts : List Token) → AreTokensFrom src at (t ∷ ts)
     → All IsToken ts
-later_spelled src at t [] f = All-nil IsToken
-later_spelled src at t (u ∷ ts) f = all_spelled src (t.place + length t.text) u ts f.2
+later-spelled src at t [] f = All-nil IsToken
+later-spelled src at t (u ∷ ts) f = all-spelled src (t.place + length t.text) u ts f.2
 
-pub next_spells : (src : Text) (at : ℕ) → IsToken (next_token src at)
-next_spells src at = spelled src at (next_token src at) (is_next src at)
+pub next-spells : (src : Text) (at : ℕ) → IsToken (next_token src at)
+next-spells src at = spelled src at (next_token src at) (is_next src at)
 
 -- so do the tokens behind it
-pub behind_spell : (src : Text) (at : ℕ) → All IsToken (tokens_behind src (next_token src at))
-behind_spell src at = later_spelled src at (next_token src at) _ (all_behind src at)
+pub behind-spell : (src : Text) (at : ℕ) → All IsToken (tokens_behind src (next_token src at))
+behind-spell src at = later-spelled src at (next_token src at) _ (all-behind src at)
 
-pub next_short : (src : Text) (at : ℕ)
+pub next-short : (src : Text) (at : ℕ)
     → length (next_token src at).text ≤ length src - (next_token src at).place
-next_short src at =
+next-short src at =
     let t = next_token src at in
     let n = is_next src at in
-    let within : length t.text ≤ length (drop t.place src) = front_within _ _ _ n.front in
+    let within : length t.text ≤ length (drop t.place src) = front-within _ _ _ n.front in
     omega (arith, length-drop t.place src)
 
 pub tells : (src : Text) → length src ≤ 16777216 → Tells (source_at src 0) src
 tells src h = record {
-  tokens = (tokens_behind src (next_token src 0), refl, all_behind src 0);
+  tokens = (tokens_behind src (next_token src 0), refl, all-behind src 0);
   steady = refl;
   faults = refl;
   origin = refl;
@@ -62,16 +62,16 @@ tells src h = record {
   stopped = refl;
 }
 
-behind_end : (src : Text) (t : Token) (b : Bool) → same_class t.class c.End ≡ b → t.class ≡ c.End
+behind-end : (src : Text) (t : Token) (b : Bool) → same_class t.class c.End ≡ b → t.class ≡ c.End
     → (if b then [] else tokens_from (suc (length src)) src (t.place + length t.text)) ≡ []
-behind_end src t true e f = refl
-behind_end src t false e f = absurd (not_end t e f)
+behind-end src t true e f = refl
+behind-end src t false e f = absurd (not-end t e f)
 
-behind_other : (src : Text) (t : Token) (b : Bool) → same_class t.class c.End ≡ b → t.class ≢ c.End
+behind-other : (src : Text) (t : Token) (b : Bool) → same_class t.class c.End ≡ b → t.class ≢ c.End
     → (if b then [] else tokens_from (suc (length src)) src (t.place + length t.text))
     ≡ tokens_from (suc (length src)) src (t.place + length t.text)
-behind_other src t true e f = absurd (f (same_class_is _ _ e))
-behind_other src t false e f = refl
+behind-other src t true e f = absurd (f (same-class-is _ _ e))
+behind-other src t false e f = refl
 
 pub at_end : (src : Text) (from : ℕ) → (next_token src from).class ≡ c.End
     → Advances (source_at src from) (Ok tt) (source_at src from)
@@ -82,7 +82,7 @@ at_end src from e = record {
   stays = λ h. refl;
   told = λ t ts h.
       let t0 = next_token src from in
-      let none : tokens_behind src t0 ≡ [] = behind_end src t0 (same_class t0.class c.End) refl e in
+      let none : tokens_behind src t0 ≡ [] = behind-end src t0 (same_class t0.class c.End) refl e in
       absurd (cc (none, h));
   origin = refl;
   steady = λ h. h;
@@ -91,20 +91,20 @@ at_end src from e = record {
 }
 
 -- the tokens behind one are the next one and those behind that
-behind_from : (src : Text) (t : Token) (at : ℕ) → t.class ≢ c.End → at ≡ t.place + length t.text
+behind-from : (src : Text) (t : Token) (at : ℕ) → t.class ≢ c.End → at ≡ t.place + length t.text
     → tokens_behind src t ≡ next_token src at ∷ tokens_behind src (next_token src at)
-behind_from src t at other is =
+behind-from src t at other is =
     let n : ℕ = suc (length src) in
     let all : tokens_behind src t ≡ tokens_from n src (t.place + length t.text) =
-    behind_other src t (same_class t.class c.End) refl other in
+    behind-other src t (same_class t.class c.End) refl other in
     let more : tokens_from n src at ≡ tokens_from (suc n) src at =
-    same_tokens n (suc n) src at (omega arith) (omega arith) in
+    same-tokens n (suc n) src at (omega arith) (omega arith) in
     all ∙ ap (tokens_from n src) (sym is) ∙ more
 
-pub goes_to : (src : Text) (from at : ℕ) → (next_token src from).class ≢ c.End
+pub goes-to : (src : Text) (from at : ℕ) → (next_token src from).class ≢ c.End
     → at ≡ (next_token src from).place + length (next_token src from).text
     → Advances (source_at src from) (Ok tt) (source_at src at)
-goes_to src from at other is =
+goes-to src from at other is =
     let t0 = next_token src from in
     let m = moves src from t0 (is_next src from) other in
     let n : (next_token src at).place ≡ at + layout_len false (drop at src) =
@@ -115,7 +115,7 @@ goes_to src from at other is =
       less = λ h. (omega (arith, m), omega (arith, m));
       stays = λ h. absurd (other h);
       told = λ t ts h.
-          let same = behind_from src t0 at other is in
+          let same = behind-from src t0 at other is in
           (cc (same, h), cc (same, h));
       origin = refl;
       steady = λ h. h;
@@ -123,9 +123,9 @@ goes_to src from at other is =
       stops = tt;
     }
 
-pub end_is : (src : Text) (now : Cut) (t : Token) → seen src now ≡ t
+pub end-is : (src : Text) (now : Cut) (t : Token) → token_shown src now ≡ t
     → (now.start ≤ now.end) × (now.end ≤ length src) → now.end ≡ t.place + length t.text
-end_is src now t e h =
+end-is src now t e h =
     let start : now.start ≡ t.place = ap (λ x. x.place) e in
     let len : length (take (now.end - now.start) (drop now.start src)) ≡ length t.text =
     ap (λ x. length x.text) e in

@@ -13,10 +13,10 @@ use Rattle.ir_lexer.specs.declared.table.TheConstants.{COLUMN, COLUMNS, STATES, 
 use Rattle.ir_lexer.specs.Spelling.{Text, Spells}
 use Rattle.ir_lexer.specs.Scan.{step, next, column, is_whole, class_at, same_class}
 use Rattle.ir_lexer.specs.Written.{NoneLonger, is_exponent, begins_sign}
-use Rattle.ir_lexer.proofs.Apart.{run_on, not_whole, or_either, implied}
-use Rattle.ir_lexer.proofs.Derive.{and_left, and_right}
-use Rattle.ir_lexer.proofs.Longest.{none_empty}
-use Rattle.ir_lexer.proofs.Machine.{run, run_dead, run_within, accepted, spelled, upto, below, column_within, step_dead, same_class_is}
+use Rattle.ir_lexer.proofs.Apart.{run-on, not-whole, or-either, implied}
+use Rattle.ir_lexer.proofs.Derive.{and-left, and-right}
+use Rattle.ir_lexer.proofs.Longest.{none-empty}
+use Rattle.ir_lexer.proofs.Machine.{run, run-dead, run-within, accepted, spelled, upto, below, column-within, step-dead, same-class-is}
 
 -- ---- the states, by the text that leads to them, and the columns
 
@@ -54,9 +54,9 @@ abbrev row_steps_on : ℕ → Bool
 row_steps_on s =
     not (is_whole s && not (same_class (class_at s) c.Dims)) || upto COLUMNS (steps_on s)
 
-steps_on_right : upto STATES row_steps_on ≡ true
+steps-on-right : upto STATES row_steps_on ≡ true
 unfolding is_whole class_at same_class
-steps_on_right = refl
+steps-on-right = refl
 
 -- What goes on with a hexadecimal number goes on with a word, and so does what goes on with an
 -- exponent, but for a sign.
@@ -65,9 +65,9 @@ ends_with_word k =
     is_whole (next word k)
     || (nat_eq (next hexadecimal k) 0 && (nat_eq (next exponent k) 0 || is_sign_column k))
 
-ends_with_word_right : upto COLUMNS ends_with_word ≡ true
+ends-with-word-right : upto COLUMNS ends_with_word ≡ true
 unfolding is_whole
-ends_with_word_right = refl
+ends-with-word-right = refl
 
 -- One byte more makes them whole or ends them, but for a sign, with which no word goes on.
 abbrev ends_soon : ℕ → Bool
@@ -75,43 +75,43 @@ ends_soon k =
     (is_whole (next hexadecimal k) || nat_eq (next hexadecimal k) 0)
     && (is_whole (next exponent k) || (nat_eq (next exponent k) 0 || nat_eq (next word k) 0))
 
-ends_soon_right : upto COLUMNS ends_soon ≡ true
+ends-soon-right : upto COLUMNS ends_soon ≡ true
 unfolding is_whole
-ends_soon_right = refl
+ends-soon-right = refl
 
 -- ---- which bytes these columns have
 
 abbrev exponent_bytes : ℕ → Bool
 exponent_bytes b = not (is_exponent_column (column b)) || ((b == 101) || (b == 69))
 
-exponent_bytes_right : upto 256 exponent_bytes ≡ true
-exponent_bytes_right = refl
+exponent-bytes-right : upto 256 exponent_bytes ≡ true
+exponent-bytes-right = refl
 
 abbrev sign_bytes : ℕ → Bool
 sign_bytes b = not (is_sign_column (column b)) || ((b == 43) || (b == 45))
 
-sign_bytes_right : upto 256 sign_bytes ≡ true
-sign_bytes_right = refl
+sign-bytes-right : upto 256 sign_bytes ≡ true
+sign-bytes-right = refl
 
-second_of : (a b : Bool) → a ≡ false → (a || b) ≡ true → b ≡ true
-second_of true b e f = absurd (cc)
-second_of false b e f = f
+second-of : (a b : Bool) → a ≡ false → (a || b) ≡ true → b ≡ true
+second-of true b e f = absurd (cc)
+second-of false b e f = f
 
-near_or_far : (b : ℕ) → (b < 256) ⊎ (256 ≤ b)
-near_or_far b = grind arith
+near-or-far : (b : ℕ) → (b < 256) ⊎ (256 ≤ b)
+near-or-far b = grind arith
 
 past : (f : ℕ → Bool) (b : ℕ) → 256 ≤ b → f 0 ≡ false → f (column b) ≡ true → ⊥
 past f b far e g = absurd (cc (e, g, ap f (get_or_past COLUMN b 0 far)))
 
-exponent_byte : (b : ℕ) → is_exponent_column (column b) ≡ true → is_exponent (b ∷ []) ≡ true
-exponent_byte b e = elim (near_or_far b) [
-  | inl near ↦ implied _ _ (below 256 exponent_bytes exponent_bytes_right b near) e
+exponent-byte : (b : ℕ) → is_exponent_column (column b) ≡ true → is_exponent (b ∷ []) ≡ true
+exponent-byte b e = elim (near-or-far b) [
+  | inl near ↦ implied _ _ (below 256 exponent_bytes exponent-bytes-right b near) e
   | inr far ↦ absurd (past is_exponent_column b far refl e)
 ]
 
-sign_byte : (b : ℕ) (t : Text) → is_sign_column (column b) ≡ true → begins_sign (b ∷ t) ≡ true
-sign_byte b t e = elim (near_or_far b) [
-  | inl near ↦ implied _ _ (below 256 sign_bytes sign_bytes_right b near) e
+sign-byte : (b : ℕ) (t : Text) → is_sign_column (column b) ≡ true → begins_sign (b ∷ t) ≡ true
+sign-byte b t e = elim (near-or-far b) [
+  | inl near ↦ implied _ _ (below 256 sign_bytes sign-bytes-right b near) e
   | inr far ↦ absurd (past is_sign_column b far refl e)
 ]
 
@@ -124,35 +124,35 @@ data Behind (s b : ℕ) : Type 0 where
   exponent_on : step s b ≡ exponent → step START b ≡ word → class_at s ≡ c.Float
       → is_exponent (b ∷ []) ≡ true → Behind s b
 
-behind_whole : (s b : ℕ) → s < STATES → is_whole s ≡ true → class_at s ≢ c.Dims
+behind-whole : (s b : ℕ) → s < STATES → is_whole s ≡ true → class_at s ≢ c.Dims
     → is_whole (step s b) ≡ false → Behind s b
 unfolding step
-behind_whole s b h w other not_yet =
+behind-whole s b h w other not_yet =
     let k = column b in
     let n = next s k in
     let row : upto COLUMNS (steps_on s) ≡ true =
     implied (is_whole s && not (same_class (class_at s) c.Dims)) (upto COLUMNS (steps_on s))
-    (below STATES row_steps_on steps_on_right s h)
-    (both (is_whole s) (same_class (class_at s) c.Dims) w (λ e. other (same_class_is _ _ e))) in
+    (below STATES row_steps_on steps-on-right s h)
+    (both (is_whole s) (same_class (class_at s) c.Dims) w (λ e. other (same-class-is _ _ e))) in
     let is_float = same_class (class_at s) c.Float in
     let float = is_float && is_exponent_column k in
     let to_word = nat_eq (next START k) word in
     let far = nat_eq n hexadecimal && to_word in
     let further = nat_eq n exponent && (to_word && float) in
-    elim (or_either (nat_eq n 0) (is_whole n || (far || further))
-    (below COLUMNS (steps_on s) row k (column_within b))) [
+    elim (or-either (nat_eq n 0) (is_whole n || (far || further))
+    (below COLUMNS (steps_on s) row k (column-within b))) [
       | inl e ↦ ends_here (eqb-true _ _ e)
-      | inr e ↦ elim (or_either far further (second_of (is_whole n) (far || further) not_yet e)) [
+      | inr e ↦ elim (or-either far further (second-of (is_whole n) (far || further) not_yet e)) [
         | inl g ↦
-            hexadecimal_on (eqb-true _ _ (and_left (nat_eq n hexadecimal) to_word g))
-            (eqb-true _ _ (and_right (nat_eq n hexadecimal) to_word g))
+            hexadecimal_on (eqb-true _ _ (and-left (nat_eq n hexadecimal) to_word g))
+            (eqb-true _ _ (and-right (nat_eq n hexadecimal) to_word g))
         | inr g ↦
-            let g1 = and_right (nat_eq n exponent) (to_word && float) g in
-            let g2 = and_right to_word float g1 in
-            exponent_on (eqb-true _ _ (and_left (nat_eq n exponent) (to_word && float) g))
-            (eqb-true _ _ (and_left to_word float g1))
-            (same_class_is _ _ (and_left is_float (is_exponent_column k) g2))
-            (exponent_byte b (and_right is_float (is_exponent_column k) g2))
+            let g1 = and-right (nat_eq n exponent) (to_word && float) g in
+            let g2 = and-right to_word float g1 in
+            exponent_on (eqb-true _ _ (and-left (nat_eq n exponent) (to_word && float) g))
+            (eqb-true _ _ (and-left to_word float g1))
+            (same-class-is _ _ (and-left is_float (is_exponent_column k) g2))
+            (exponent-byte b (and-right is_float (is_exponent_column k) g2))
       ]
     ]
   where
@@ -162,18 +162,18 @@ behind_whole s b h w other not_yet =
     both false q e f = absurd (cc)
 
 -- a byte that doesn't go on with a word
-after_word : (b : ℕ) → is_whole (step word b) ≡ false
+after-word : (b : ℕ) → is_whole (step word b) ≡ false
     → (step hexadecimal b ≡ 0) × ((step exponent b ≡ 0) ⊎ (is_sign_column (column b) ≡ true))
 unfolding step
-after_word b not_yet =
+after-word b not_yet =
     let k = column b in
     let dead = nat_eq (next exponent k) 0 in
     let both : (nat_eq (next hexadecimal k) 0 && (dead || is_sign_column k)) ≡ true =
-    second_of (is_whole (next word k)) (nat_eq (next hexadecimal k) 0 && (dead || is_sign_column k))
-    not_yet (below COLUMNS ends_with_word ends_with_word_right k (column_within b)) in (
-      eqb-true _ _ (and_left (nat_eq (next hexadecimal k) 0) (dead || is_sign_column k) both),
-      elim (or_either dead (is_sign_column k)
-          (and_right (nat_eq (next hexadecimal k) 0) (dead || is_sign_column k) both)) [
+    second-of (is_whole (next word k)) (nat_eq (next hexadecimal k) 0 && (dead || is_sign_column k))
+    not_yet (below COLUMNS ends_with_word ends-with-word-right k (column-within b)) in (
+      eqb-true _ _ (and-left (nat_eq (next hexadecimal k) 0) (dead || is_sign_column k) both),
+      elim (or-either dead (is_sign_column k)
+          (and-right (nat_eq (next hexadecimal k) 0) (dead || is_sign_column k) both)) [
             | inl f ↦ inl (eqb-true _ _ f)
             | inr f ↦ inr f
           ],
@@ -181,48 +181,48 @@ after_word b not_yet =
 
 -- what one byte more does where nothing is whole
 soon : (b : ℕ) → ends_soon (column b) ≡ true
-soon b = below COLUMNS ends_soon ends_soon_right (column b) (column_within b)
+soon b = below COLUMNS ends_soon ends-soon-right (column b) (column-within b)
 
-second_hexadecimal : (b : ℕ) → is_whole (step hexadecimal b) ≡ false → step hexadecimal b ≡ 0
+second-hexadecimal : (b : ℕ) → is_whole (step hexadecimal b) ≡ false → step hexadecimal b ≡ 0
 unfolding step
-second_hexadecimal b not_yet =
+second-hexadecimal b not_yet =
     let n = next hexadecimal (column b) in
     let m = next exponent (column b) in
-    eqb-true _ _ (second_of (is_whole n) (nat_eq n 0) not_yet (and_left (is_whole n || nat_eq n 0)
+    eqb-true _ _ (second-of (is_whole n) (nat_eq n 0) not_yet (and-left (is_whole n || nat_eq n 0)
     (is_whole m || (nat_eq m 0 || nat_eq (next word (column b)) 0)) (soon b)))
 
-second_exponent : (b : ℕ) → is_whole (step exponent b) ≡ false
+second-exponent : (b : ℕ) → is_whole (step exponent b) ≡ false
     → (step exponent b ≡ 0) ⊎ (step word b ≡ 0)
 unfolding step
-second_exponent b not_yet =
+second-exponent b not_yet =
     let n = next hexadecimal (column b) in
     let m = next exponent (column b) in
     let w = next word (column b) in
-    elim (or_either (nat_eq m 0) (nat_eq w 0)
-    (second_of (is_whole m) (nat_eq m 0 || nat_eq w 0) not_yet
-    (and_right (is_whole n || nat_eq n 0) (is_whole m || (nat_eq m 0 || nat_eq w 0)) (soon b)))) [
+    elim (or-either (nat_eq m 0) (nat_eq w 0)
+    (second-of (is_whole m) (nat_eq m 0 || nat_eq w 0) not_yet
+    (and-right (is_whole n || nat_eq n 0) (is_whole m || (nat_eq m 0 || nat_eq w 0)) (soon b)))) [
       | inl f ↦ inl (eqb-true _ _ f)
       | inr f ↦ inr (eqb-true _ _ f)
     ]
 
 -- ---- runs
 
-pub run_join : (t u : Text) (s : ℕ) → run s (t ++ u) ≡ run (run s t) u
-run_join [] u s = refl
-run_join (b ∷ t) u s = run_join t u (step s b)
+pub run-join : (t u : Text) (s : ℕ) → run s (t ++ u) ≡ run (run s t) u
+run-join [] u s = refl
+run-join (b ∷ t) u s = run-join t u (step s b)
 
 -- no prefix of the second text makes a longer spelling
-none_whole : (x u v : Text) → NoneLonger x (u ++ v) → 0 < length u
+none-whole : (x u v : Text) → NoneLonger x (u ++ v) → 0 < length u
     → is_whole (run (run START x) u) ≡ false
-none_whole x u v none more = not_true _ (λ w.
+none-whole x u v none more = not-true _ (λ w.
     none (length x + length u) (class_at (run START (x ++ u))) (omega arith)
     (omega (arith, length-append x (u ++ v), length-append u v))
     (subst (Spells (class_at (run START (x ++ u)))) (sym same)
-    (spelled (x ++ u) (ap is_whole (run_join x u START) ∙ w))))
+    (spelled (x ++ u) (ap is_whole (run-join x u START) ∙ w))))
   where
-    not_true : (b : Bool) → (b ≡ true → ⊥) → b ≡ false
-    not_true true f = absurd (f refl)
-    not_true false f = refl
+    not-true : (b : Bool) → (b ≡ true → ⊥) → b ≡ false
+    not-true true f = absurd (f refl)
+    not-true false f = refl
 
     same : take (length x + length u) (x ++ (u ++ v)) ≡ x ++ u
     same = take-append-add x (u ++ v) (length u)
@@ -236,52 +236,52 @@ dies : (a b : Class) (x y rest : Text) (k : ℕ) → Spells a x → Spells b y �
     → NoneLonger x y → NoneLonger y (k ∷ rest)
     → (a ≡ c.Float → is_exponent y ≡ true → begins_sign (k ∷ rest) ≡ true → ⊥)
     → step (run (run START x) y) k ≡ 0
-dies a b x [] rest k f g other none then sign = absurd (none_empty b g)
+dies a b x [] rest k f g other none then sign = absurd (none-empty b g)
 dies a b x (d ∷ []) rest k f g other none then sign =
     let s = run START x in
     let is = accepted a x f in
-    let first : is_whole (step s d) ≡ false = none_whole x (d ∷ []) [] none (lit< tt) in
+    let first : is_whole (step s d) ≡ false = none-whole x (d ∷ []) [] none (lit< tt) in
     let second : is_whole (step (step START d) k) ≡ false =
-    none_whole (d ∷ []) (k ∷ []) rest then (lit< tt) in
-    elim (behind_whole s d (run_within x START (lit< tt)) is.0 (λ e. other (sym is.1 ∙ e)) first) [
-      | ends_here e ↦ ap (λ z. step z k) e ∙ step_dead k
-      | hexadecimal_on e w ↦ ap (λ z. step z k) e ∙ (after_word k (moved _ _ k w second)).0
+    none-whole (d ∷ []) (k ∷ []) rest then (lit< tt) in
+    elim (behind-whole s d (run-within x START (lit< tt)) is.0 (λ e. other (sym is.1 ∙ e)) first) [
+      | ends_here e ↦ ap (λ z. step z k) e ∙ step-dead k
+      | hexadecimal_on e w ↦ ap (λ z. step z k) e ∙ (after-word k (moved _ _ k w second)).0
       | exponent_on e w float z ↦
-          elim ((after_word k (moved _ _ k w second)).1) [
+          elim ((after-word k (moved _ _ k w second)).1) [
             | inl h ↦ ap (λ z. step z k) e ∙ h
-            | inr h ↦ absurd (sign (sym is.1 ∙ float) z (sign_byte k rest h))
+            | inr h ↦ absurd (sign (sym is.1 ∙ float) z (sign-byte k rest h))
           ]
     ]
 dies a b x (d ∷ e ∷ y) rest k f g other none then sign =
     let s = run START x in
     let is = accepted a x f in
-    let first : is_whole (step s d) ≡ false = none_whole x (d ∷ []) (e ∷ y) none (lit< tt) in
+    let first : is_whole (step s d) ≡ false = none-whole x (d ∷ []) (e ∷ y) none (lit< tt) in
     let second : is_whole (step (step s d) e) ≡ false =
-    none_whole x (d ∷ e ∷ []) y none (lit< tt) in
+    none-whole x (d ∷ e ∷ []) y none (lit< tt) in
     let whole : is_whole (run (step (step START d) e) y) ≡ true = (accepted b (d ∷ e ∷ y) g).0 in
-    elim (behind_whole s d (run_within x START (lit< tt)) is.0 (λ e. other (sym is.1 ∙ e)) first) [
-      | ends_here h ↦ gone (step (step s d) e) y k (ap (λ z. step z e) h ∙ step_dead e)
+    elim (behind-whole s d (run-within x START (lit< tt)) is.0 (λ e. other (sym is.1 ∙ e)) first) [
+      | ends_here h ↦ gone (step (step s d) e) y k (ap (λ z. step z e) h ∙ step-dead e)
       | hexadecimal_on h w ↦
           gone (step (step s d) e) y k
-          (ap (λ z. step z e) h ∙ second_hexadecimal e (moved _ _ e h second))
+          (ap (λ z. step z e) h ∙ second-hexadecimal e (moved _ _ e h second))
       | exponent_on h w float z ↦
-          elim (second_exponent e (moved _ _ e h second)) [
+          elim (second-exponent e (moved _ _ e h second)) [
             | inl i ↦ gone (step (step s d) e) y k (ap (λ z. step z e) h ∙ i)
-            | inr i ↦ absurd (not_whole (sym (ap is_whole
-                (ap (λ z. run z y) (ap (λ z. step z e) w ∙ i) ∙ run_dead y)) ∙ whole))
+            | inr i ↦ absurd (not-whole (sym (ap is_whole
+                (ap (λ z. run z y) (ap (λ z. step z e) w ∙ i) ∙ run-dead y)) ∙ whole))
           ]
     ]
   where
     gone : (s : ℕ) (y : Text) (k : ℕ) → s ≡ 0 → step (run s y) k ≡ 0
-    gone s y k e = ap (λ z. step (run z y) k) e ∙ ap (λ z. step z k) (run_dead y) ∙ step_dead k
+    gone s y k e = ap (λ z. step (run z y) k) e ∙ ap (λ z. step z k) (run-dead y) ∙ step-dead k
 
-far_apart : (x y rest : Text) (k : ℕ) → NoneLonger x y → step (run (run START x) y) k ≡ 0
+far-apart : (x y rest : Text) (k : ℕ) → NoneLonger x y → step (run (run START x) y) k ≡ 0
     → (m : ℕ) (class : Class) → m ≤ length (x ++ (y ++ k ∷ rest))
     → Spells class (take m (x ++ (y ++ k ∷ rest))) → length x + 1 ≤ m → ⊥
-far_apart x y rest k none ends m class l spells h = go (shorter_or_longer m (length (x ++ y)))
+far-apart x y rest k none ends m class l spells h = go (shorter-or-longer m (length (x ++ y)))
   where
-    shorter_or_longer : (m n : ℕ) → (m ≤ n) ⊎ (n < m)
-    shorter_or_longer m n = grind arith
+    shorter-or-longer : (m n : ℕ) → (m ≤ n) ⊎ (n < m)
+    shorter-or-longer m n = grind arith
 
     regroup : take m (x ++ (y ++ k ∷ rest)) ≡ take m ((x ++ y) ++ k ∷ rest)
     regroup = ap (take m) (sym (append_assoc x y (k ∷ rest)))
@@ -297,26 +297,26 @@ far_apart x y rest k none ends m class l spells h = go (shorter_or_longer m (len
         regroup ∙ ap (λ n. take n ((x ++ y) ++ k ∷ rest)) is
         ∙ take-append-add (x ++ y) (k ∷ rest) (suc j) in
         let here : step (run START (x ++ y)) k ≡ 0 =
-        ap (λ s. step s k) (run_join x y START) ∙ ends in
+        ap (λ s. step s k) (run-join x y START) ∙ ends in
         let ended : run START ((x ++ y) ++ k ∷ take j rest) ≡ 0 =
-        run_on (x ++ y) (take j rest) START k ∙ ap (λ s. run s (take j rest)) here
-        ∙ run_dead (take j rest) in
-        not_whole (sym (ap is_whole ended)
+        run-on (x ++ y) (take j rest) START k ∙ ap (λ s. run s (take j rest)) here
+        ∙ run-dead (take j rest) in
+        not-whole (sym (ap is_whole ended)
         ∙ (accepted class ((x ++ y) ++ k ∷ take j rest) (subst (Spells class) cut spells)).0)
 
 -- The first text stays apart from the second and what follows it, where the second stays apart from
 -- that, and no sign follows an exponent.
-pub three_apart : (a b : Class) (x y rest : Text) → Spells a x → Spells b y → a ≢ c.Dims
+pub three-apart : (a b : Class) (x y rest : Text) → Spells a x → Spells b y → a ≢ c.Dims
     → NoneLonger x y → NoneLonger y rest
     → (a ≡ c.Float → is_exponent y ≡ true → begins_sign rest ≡ true → ⊥)
     → NoneLonger x (y ++ rest)
-three_apart a b x y [] f g other none then sign = subst (NoneLonger x) (sym (append_nil y)) none
+three-apart a b x y [] f g other none then sign = subst (NoneLonger x) (sym (append-nil y)) none
   where
-    append_nil : (t : Text) → t ++ [] ≡ t
-    append_nil [] = refl
-    append_nil (b ∷ t) = ap (λ z. b ∷ z) (append_nil t)
-three_apart a b x y (k ∷ rest) f g other none then sign = λ m class h l spells.
-    far_apart x y rest k none (dies a b x y rest k f g other none then sign) m class l spells h
+    append-nil : (t : Text) → t ++ [] ≡ t
+    append-nil [] = refl
+    append-nil (b ∷ t) = ap (λ z. b ∷ z) (append-nil t)
+three-apart a b x y (k ∷ rest) f g other none then sign = λ m class h l spells.
+    far-apart x y rest k none (dies a b x y rest k f g other none then sign) m class l spells h
 
 -- ---- how far to look
 
@@ -325,53 +325,53 @@ abbrev third_ends : ℕ → ℕ → Bool
 third_ends k j =
     is_whole (next (next exponent k) j) || nat_eq (next (next exponent k) j) 0
 
-third_ends_right : upto COLUMNS (λ k. upto COLUMNS (λ j. third_ends k j)) ≡ true
+third-ends-right : upto COLUMNS (λ k. upto COLUMNS (λ j. third_ends k j)) ≡ true
 unfolding is_whole
-third_ends_right = refl
+third-ends-right = refl
 
-third_exponent : (b d : ℕ) → is_whole (step (step exponent b) d) ≡ false
+third-exponent : (b d : ℕ) → is_whole (step (step exponent b) d) ≡ false
     → step (step exponent b) d ≡ 0
 unfolding step
-third_exponent b d not_yet =
+third-exponent b d not_yet =
     let n = next (next exponent (column b)) (column d) in
-    eqb-true n 0 (second_of (is_whole n) (nat_eq n 0) not_yet
+    eqb-true n 0 (second-of (is_whole n) (nat_eq n 0) not_yet
     (below COLUMNS (third_ends (column b))
-    (below COLUMNS (λ k. upto COLUMNS (λ j. third_ends k j)) third_ends_right (column b)
-    (column_within b)) (column d) (column_within d)))
+    (below COLUMNS (λ k. upto COLUMNS (λ j. third_ends k j)) third-ends-right (column b)
+    (column-within b)) (column d) (column-within d)))
 
-three_die : (s b d e : ℕ) → s < STATES → is_whole s ≡ true → class_at s ≢ c.Dims
+three-die : (s b d e : ℕ) → s < STATES → is_whole s ≡ true → class_at s ≢ c.Dims
     → is_whole (step s b) ≡ false → is_whole (step (step s b) d) ≡ false
     → is_whole (step (step (step s b) d) e) ≡ false
     → step (step (step s b) d) e ≡ 0
-three_die s b d e h w other first second third =
-    elim (behind_whole s b h w other first) [
-      | ends_here i ↦ dead_then (step s b) d e (ap (λ z. step z d) i ∙ step_dead d)
+three-die s b d e h w other first second third =
+    elim (behind-whole s b h w other first) [
+      | ends_here i ↦ dead-then (step s b) d e (ap (λ z. step z d) i ∙ step-dead d)
       | hexadecimal_on i v ↦
-          dead_then (step s b) d e
-          (ap (λ z. step z d) i ∙ second_hexadecimal d (moved _ _ d i second))
+          dead-then (step s b) d e
+          (ap (λ z. step z d) i ∙ second-hexadecimal d (moved _ _ d i second))
       | exponent_on i v float z ↦
           ap (λ q. step (step q d) e) i
-          ∙ third_exponent d e (subst (λ q. is_whole (step (step q d) e) ≡ false) i third)
+          ∙ third-exponent d e (subst (λ q. is_whole (step (step q d) e) ≡ false) i third)
     ]
   where
-    dead_then : (q d e : ℕ) → step q d ≡ 0 → step (step q d) e ≡ 0
-    dead_then q d e i = ap (λ z. step z e) i ∙ step_dead e
+    dead-then : (q d e : ℕ) → step q d ≡ 0 → step (step q d) e ≡ 0
+    dead-then q d e i = ap (λ z. step z e) i ∙ step-dead e
 
 -- Three bytes of what follows a spelling, but for dimensions, tell whether a longer one begins
 -- where it does.
-pub three_bytes : (a : Class) (x y : Text) → Spells a x → a ≢ c.Dims → NoneLonger x (take 3 y)
+pub three-bytes : (a : Class) (x y : Text) → Spells a x → a ≢ c.Dims → NoneLonger x (take 3 y)
     → NoneLonger x y
-three_bytes a x [] f other none = none
-three_bytes a x (b ∷ []) f other none = none
-three_bytes a x (b ∷ d ∷ []) f other none = none
-three_bytes a x (b ∷ d ∷ e ∷ []) f other none = none
-three_bytes a x (b ∷ d ∷ e ∷ k ∷ rest) f other none = λ m class h l spells.
+three-bytes a x [] f other none = none
+three-bytes a x (b ∷ []) f other none = none
+three-bytes a x (b ∷ d ∷ []) f other none = none
+three-bytes a x (b ∷ d ∷ e ∷ []) f other none = none
+three-bytes a x (b ∷ d ∷ e ∷ k ∷ rest) f other none = λ m class h l spells.
     let is = accepted a x f in
     let die : step (run (run START x) (b ∷ d ∷ e ∷ [])) k ≡ 0 =
-    ap (λ z. step z k) (three_die (run START x) b d e (run_within x START (lit< tt)) is.0
+    ap (λ z. step z k) (three-die (run START x) b d e (run-within x START (lit< tt)) is.0
     (λ i. other (sym is.1 ∙ i))
-    (none_whole x (b ∷ []) (d ∷ e ∷ []) none (lit< tt))
-    (none_whole x (b ∷ d ∷ []) (e ∷ []) none (lit< tt))
-    (none_whole x (b ∷ d ∷ e ∷ []) [] none (lit< tt)))
-    ∙ step_dead k in
-    far_apart x (b ∷ d ∷ e ∷ []) rest k none die m class l spells h
+    (none-whole x (b ∷ []) (d ∷ e ∷ []) none (lit< tt))
+    (none-whole x (b ∷ d ∷ []) (e ∷ []) none (lit< tt))
+    (none-whole x (b ∷ d ∷ e ∷ []) [] none (lit< tt)))
+    ∙ step-dead k in
+    far-apart x (b ∷ d ∷ e ∷ []) rest k none die m class l spells h

@@ -6,17 +6,17 @@ use Rattle.ir_lexer.specs.Spelling.{Text}
 use Rattle.ir_lexer.specs.Names.{items_bytes}
 
 -- a byte that begins no escape stands for itself
-plain_item : (a : ℕ) (t : Text) → (a == backslash) ≡ false → items_bytes (a ∷ t) ≡ a ∷ items_bytes t
-plain_item a [] e = refl
-plain_item a (b ∷ []) e = rw e refl
-plain_item a (b ∷ c ∷ t) e = rw e refl
+plain-item : (a : ℕ) (t : Text) → (a == backslash) ≡ false → items_bytes (a ∷ t) ≡ a ∷ items_bytes t
+plain-item a [] e = refl
+plain-item a (b ∷ []) e = rw e refl
+plain-item a (b ∷ c ∷ t) e = rw e refl
 
 -- where no backslash stands, the items are the bytes
-pub items_bytes-plain : (t : Text) → list_any (λ b. b == backslash) t ≡ false → items_bytes t ≡ t
-items_bytes-plain [] e = refl
-items_bytes-plain (a ∷ t) e =
-    plain_item a t (left (a == backslash) _ e)
-    ∙ ap (λ u. a ∷ u) (items_bytes-plain t (right (a == backslash) _ e))
+pub items-bytes-plain : (t : Text) → list_any (λ b. b == backslash) t ≡ false → items_bytes t ≡ t
+items-bytes-plain [] e = refl
+items-bytes-plain (a ∷ t) e =
+    plain-item a t (left (a == backslash) _ e)
+    ∙ ap (λ u. a ∷ u) (items-bytes-plain t (right (a == backslash) _ e))
   where
     left : (p q : Bool) → (p || q) ≡ false → p ≡ false
     left true q e = e

@@ -3,7 +3,7 @@
 -- A token of the code has only places, so what it says hangs on the text.
 --
 --   Reading        a text, and the place at which the search for the next token begins
---   seen src t     the token that the places of t show in the text src
+--   token_shown src t     the token that the places of t show in the text src
 use Rattle.std.specs.Prelude.{ℕ, slice_range}
 use Rattle.ir_lexer.specs.declared.lexer.Token.{Token as Cut}
 use Rattle.ir_lexer.specs.Spelling.{Text}
@@ -15,5 +15,5 @@ pub record Reading : Type 0 where
   pub place : ℕ
 
 -- the class, the bytes from start to end, and the start as the place
-abbrev pub seen : Text → Cut → Token
-seen src t = record { class = t.class; text = slice_range src t.start t.end; place = t.start }
+abbrev pub token_shown : Text → Cut → Token
+token_shown src t = record { class = t.class; text = slice_range src t.start t.end; place = t.start }

@@ -7,7 +7,7 @@
 use Rattle.std.specs.Prelude.{◌≡◌, ℕ, ◌-◌, ◌≤◌, true, false, List, ◌∷◌, length, Some, None}
 use Rattle.ir_lexer.specs.declared.lexer.TheConstants.{TEXT_LIMIT}
 use Rattle.ir_lexer.specs.Spelling.{Text}
-use Rattle.ir_lexer.specs.Tokens.{Token, Tokens}
+use Rattle.ir_lexer.specs.Tokens.{Token, AreTokens}
 use Rattle.ir_lexer.specs.Reading.{Reading}
 use Rattle.ir_lexer.specs.Scan.{next_token, tokens_behind}
 use Rattle.ir_lexer.specs.Source.{Source}
@@ -30,9 +30,9 @@ unfoldable pub slice_source : Reading → Source
 slice_source r = source_at r.text r.place
 
 -- It stands at the first token of a text and tells the others, and nothing outside can fail. By
--- `Tokens`, the text of each of these tokens spells its class.
+-- `AreTokens`, the text of each of these tokens spells its class.
 pub record Tells (s : Source) (src : Text) : Type 0 where
-  pub tokens : (ts : List Token) × (s.later ≡ Some ts) × Tokens src (s.now ∷ ts)
+  pub tokens : (ts : List Token) × (s.later ≡ Some ts) × AreTokens src (s.now ∷ ts)
   pub steady : s.steady ≡ true
   pub faults : s.faults ≡ 0
   pub origin : s.origin ≡ None

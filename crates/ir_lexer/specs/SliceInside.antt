@@ -2,7 +2,7 @@
 use Rattle.std.specs.Prelude.{◌≡◌, ◌≤◌, length}
 use Rattle.ir_lexer.specs.declared.lexer.TheConstants.{TEXT_LIMIT}
 use Rattle.ir_lexer.specs.declared.slice.SliceTokens.TheInside.{Inside}
-use Rattle.ir_lexer.specs.Reading.{Reading, seen}
+use Rattle.ir_lexer.specs.Reading.{Reading, token_shown}
 use Rattle.ir_lexer.specs.Scan.{next_token}
 
 abbrev pub reading_of : Inside → Reading
@@ -12,4 +12,4 @@ reading_of s = record { text = s.src.now; place = s.from }
 pub record IsAtToken (s : Inside) : Type 0 where
   pub short : length s.src.now ≤ TEXT_LIMIT
   pub inside : (s.now.start ≤ s.now.end) × (s.now.end ≤ length s.src.now)
-  pub present : seen s.src.now s.now ≡ next_token s.src.now s.from
+  pub present : token_shown s.src.now s.now ≡ next_token s.src.now s.from

@@ -44,10 +44,10 @@ IsToken t =
     ⊎ (((t.class ≡ Bad) × (length t.text ≡ 1)) ⊎ ((t.class ≡ End) × (t.text ≡ [])))
 
 -- `Failed` comes only where the count rose, and never from a steady source. Want of memory is free.
-abbrev pub HasCause : Source → Result (Unit {0}) TokenStop → Source → Type 0
-HasCause old (Ok a) new = Unit {0}
-HasCause old (Err Failed) new = Rose old.faults new.faults × (old.steady ≢ true)
-HasCause old (Err OutOfMemory) new = Unit {0}
+abbrev pub StepHasCause : Source → Result (Unit {0}) TokenStop → Source → Type 0
+StepHasCause old (Ok a) new = Unit {0}
+StepHasCause old (Err Failed) new = Rose old.faults new.faults × (old.steady ≢ true)
+StepHasCause old (Err OutOfMemory) new = Unit {0}
 
 -- A step drops the present token. `Ok` at another class than `End` makes `left` less and goes to a
 -- greater place, so every source comes to `End` or fails. At `End` nothing changes.
@@ -55,7 +55,7 @@ pub record Advances (old : Source) (result : Result (Unit {0}) TokenStop) (new :
     : Type 0 where
   -- the count of faults never falls
   pub faults : old.faults ≤ new.faults
-  pub cause : HasCause old result new
+  pub cause : StepHasCause old result new
   pub less : OnOk result (old.now.class ≢ End
       → (new.left < old.left) × (old.now.place < new.now.place))
   pub stays : old.now.class ≡ End → new ≡ old

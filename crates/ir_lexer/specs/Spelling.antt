@@ -34,9 +34,9 @@ pub data Spelling : Type 0 where
   many : Spelling → Spelling
 
 -- each text of a list has the property
-abbrev pub Each : (Text → Type 0) → List Text → Type 0
-Each P [] = Unit {0}
-Each P (t ∷ ts) = P t × Each P ts
+abbrev pub EachText : (Text → Type 0) → List Text → Type 0
+EachText P [] = Unit {0}
+EachText P (t ∷ ts) = P t × EachText P ts
 
 -- the text is one of those that a regular expression stands for
 abbrev pub Fits : Spelling → Text → Type 0
@@ -45,7 +45,7 @@ Fits empty t = t ≡ []
 Fits (between low high) t = (b : ℕ) × (t ≡ b ∷ []) × (low ≤ b) × (b ≤ high)
 Fits (both r s) t = (front back : Text) × (t ≡ front ++ back) × Fits r front × Fits s back
 Fits (either r s) t = Fits r t ⊎ Fits s t
-Fits (many r) t = (pieces : List Text) × (t ≡ concat pieces) × Each (Fits r) pieces
+Fits (many r) t = (pieces : List Text) × (t ≡ concat pieces) × EachText (Fits r) pieces
 
 -- ---- words for regular expressions
 

@@ -8,7 +8,7 @@
 --   IsFront t class n       the token at the front of t, which begins with no layout: its class,
 --                           and how many bytes it has
 --   IsNext src at token     the token that comes next from a place of src on
---   Tokens src tokens       all tokens of src, up to and with `End`
+--   AreTokens src tokens       all tokens of src, up to and with `End`
 use Rattle.std.specs.Prelude.{◌≡◌, ◌≢◌, ◌⊎◌, ℕ, suc, ◌+◌, ◌<◌, ◌≤◌, Bool, true, false, not, ◌&&◌, ◌||◌, List, [], ◌∷◌, length, take, drop, if◌then◌else◌, ◌==◌, slice_index}
 use Rattle.ir_lexer.specs.declared.class.Class.{Class}
 use Rattle.ir_lexer.specs.declared.class.Class.TheVariants as c
@@ -58,11 +58,11 @@ pub record IsNext (src : Text) (at : ℕ) (t : Token) : Type 0 where
 
 -- Each token comes next behind the one before it, the first one from the place on. The last one is
 -- `End`, and no other one is.
-abbrev pub TokensFrom : Text → ℕ → List Token → Type 0
-TokensFrom src at [] = ⊥
-TokensFrom src at (t ∷ []) = IsNext src at t × (t.class ≡ c.End)
-TokensFrom src at (t ∷ u ∷ ts) =
-    IsNext src at t × (t.class ≢ c.End) × TokensFrom src (t.place + length t.text) (u ∷ ts)
+abbrev pub AreTokensFrom : Text → ℕ → List Token → Type 0
+AreTokensFrom src at [] = ⊥
+AreTokensFrom src at (t ∷ []) = IsNext src at t × (t.class ≡ c.End)
+AreTokensFrom src at (t ∷ u ∷ ts) =
+    IsNext src at t × (t.class ≢ c.End) × AreTokensFrom src (t.place + length t.text) (u ∷ ts)
 
-abbrev pub Tokens : Text → List Token → Type 0
-Tokens src ts = TokensFrom src 0 ts
+abbrev pub AreTokens : Text → List Token → Type 0
+AreTokens src ts = AreTokensFrom src 0 ts

@@ -4,7 +4,7 @@
 -- Most pairs of classes may stand side by side: no spelling of the first goes on with the first
 -- byte of one of the second. `may_join` names the other pairs.
 --
---   written pieces tail     the text of the pieces, and blanks behind the last
+--   text_of_pieces pieces tail     the text of the pieces, and blanks behind the last
 --   NoneLonger text rest    before this rest, no spelling goes on behind the text
 --   AreApart pieces tail    each piece is a spelling, and the longest where it stands
 --   placed at pieces tail   the tokens of the pieces, from a place on, and the end
@@ -29,9 +29,9 @@ IsGap [] = Unit {0}
 IsGap (b ∷ t) = (is_blank b ≡ true) × IsGap t
 
 -- the pieces, and blanks behind the last
-abbrev pub written : List Piece → Text → Text
-written [] tail = tail
-written (p ∷ ps) tail = p.gap ++ (p.text ++ written ps tail)
+abbrev pub text_of_pieces : List Piece → Text → Text
+text_of_pieces [] tail = tail
+text_of_pieces (p ∷ ps) tail = p.gap ++ (p.text ++ text_of_pieces ps tail)
 
 -- no prefix of the two together that is longer than the text spells any class
 abbrev pub NoneLonger : Text → Text → Type 0
@@ -41,7 +41,7 @@ NoneLonger text rest = NoneFrom (length text + 1) (text ++ rest)
 abbrev pub AreApart : List Piece → Text → Type 0
 AreApart [] tail = IsGap tail
 AreApart (p ∷ ps) tail =
-    IsGap p.gap × Spells p.class p.text × NoneLonger p.text (written ps tail) × AreApart ps tail
+    IsGap p.gap × Spells p.class p.text × NoneLonger p.text (text_of_pieces ps tail) × AreApart ps tail
 
 -- the tokens of the pieces, and the end, where the first gap begins at the place
 abbrev pub placed : ℕ → List Piece → Text → List Token

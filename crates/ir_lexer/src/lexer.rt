@@ -3,7 +3,7 @@
 ghost use Rattle.std.specs.Prelude.{◌≡◌, ◌≤◌, length, slice_range};
 ghost use Rattle.ir_lexer.specs.Tokens.{IsNext};
 ghost use Rattle.ir_lexer.specs.Scan.{next_token};
-ghost use Rattle.ir_lexer.specs.Reading.{Reading, seen};
+ghost use Rattle.ir_lexer.specs.Reading.{Reading, token_shown};
 
 use crate::class::Class;
 use crate::scan::{layout_end, longest};
@@ -57,7 +57,7 @@ impl<'a> Lexer<'a> {
     /// Each call begins where the last one ended. So from a new lexer on, the tokens up to the
     /// first `End` are those that `Tokens` of `specs/Tokens.antt` gives the text.
     pub fn next(&mut self) -> Token
-        ensures next { IsNext self.old.text self.old.place (seen self.old.text result) }
+        ensures next { IsNext self.old.text self.old.place (token_shown self.old.text result) }
         ensures moved { self.new ≡ record { text = self.old.text; place = result.end } }
 
         // The token lies in the text, and that of the end is empty.
@@ -82,7 +82,7 @@ impl<'a> Lexer<'a> {
 pub fn token_at(src: &[u8], at: u32) -> Token
     requires short { length src.now ≤ TEXT_LIMIT }
     requires within { at ≤ length src.now }
-    ensures value { seen src.now result ≡ next_token src.now at }
+    ensures value { token_shown src.now result ≡ next_token src.now at }
     ensures behind { at ≤ result.start }
     ensures inside { (result.start ≤ result.end) × (result.end ≤ length src.now) }
 {

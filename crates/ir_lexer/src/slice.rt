@@ -1,7 +1,7 @@
 //! The tokens of a slice as a source.
 
 ghost use Rattle.std.specs.Prelude.{◌≡◌, ◌≤◌, ◌+◌, length, IsOk};
-ghost use Rattle.ir_lexer.specs.Reading.{Reading, seen};
+ghost use Rattle.ir_lexer.specs.Reading.{Reading, token_shown};
 ghost use Rattle.ir_lexer.specs.Scan.{next_token};
 ghost use Rattle.ir_lexer.specs.Slice.{Tells, slice_source};
 ghost use Rattle.ir_lexer.specs.Source.{Advances};

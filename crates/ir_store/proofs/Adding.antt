@@ -8,10 +8,10 @@ use Rattle.ir_store.specs.declared.rows.OpId.{OpId}
 use Rattle.ir_store.specs.declared.rows.RegionId.{RegionId}
 use Rattle.ir_store.specs.declared.rows.BlockId.{BlockId}
 use Rattle.ir_store.specs.Modules.{no_ops, then_op, no_regions, region, no_blocks, block, types_in}
-use Rattle.ir_store.specs.Numbering.{Numbers, start, past_op, past_region, past_block, behind}
+use Rattle.ir_store.specs.Numbering.{Numbers, first_numbers, past_op, past_region, past_block, behind}
 use Rattle.ir_store.specs.Numbering.{behind_regions, behind_blocks}
 use Rattle.ir_store.specs.Named.{op_id, region_id, block_id}
-use Rattle.ir_store.specs.Growth.{Place, in_block, in_op, in_region, IsOneOf, Addition, to_block}
+use Rattle.ir_store.specs.Growth.{Parent, in_block, in_op, in_region, IsOneOf, Addition, to_block}
 use Rattle.ir_store.specs.Growth.{to_op, to_region, open_ops, open_regions, open_blocks, open_in}
 use Rattle.ir_store.specs.Growth.{IsOpen, parent_of, in_this_op, in_this_region, in_this_block}
 use Rattle.ir_store.specs.Growth.{added_ops, added_regions, added_blocks, added}
@@ -31,7 +31,7 @@ act (to_block b more) s = with_ops s b more
 act (to_op o more) s = with_regions s o more
 act (to_region r more) s = with_blocks s r more
 
-this-op : (a : Adding) (n : ℕ) (rs inside : Rs) (s : Rows) (qs : List Place)
+this-op : (a : Adding) (n : ℕ) (rs inside : Rs) (s : Rows) (qs : List Parent)
     → IsOneOf (parent_of a) (in_op (op_id n) ∷ qs)
     → (IsOneOf (parent_of a) qs → act a (with_regions s (op_id n) rs) ≡ with_regions s (op_id n) inside)
     → act a (with_regions s (op_id n) rs) ≡ with_regions s (op_id n) (in_this_op a n rs inside)
@@ -47,7 +47,7 @@ this-op (to_op o more) n rs inside s qs m f = elim (eqb_tells o.0 n) [
   ]
 ]
 
-this-region : (a : Adding) (n : ℕ) (bs inside : Bs) (s : Rows) (qs : List Place)
+this-region : (a : Adding) (n : ℕ) (bs inside : Bs) (s : Rows) (qs : List Parent)
     → IsOneOf (parent_of a) (in_region (region_id n) ∷ qs)
     → (IsOneOf (parent_of a) qs → act a (with_blocks s (region_id n) bs) ≡ with_blocks s (region_id n) inside)
     → act a (with_blocks s (region_id n) bs) ≡ with_blocks s (region_id n) (in_this_region a n bs inside)
@@ -63,7 +63,7 @@ this-region (to_region r more) n bs inside s qs m f = elim (eqb_tells r.0 n) [
   ]
 ]
 
-this-block : (a : Adding) (n : ℕ) (os inside : Module) (s : Rows) (qs : List Place)
+this-block : (a : Adding) (n : ℕ) (os inside : Module) (s : Rows) (qs : List Parent)
     → IsOneOf (parent_of a) (in_block (Some (block_id n)) ∷ qs)
     → (IsOneOf (parent_of a) qs → act a (with_ops s (Some (block_id n)) os) ≡ with_ops s (Some (block_id n)) inside)
     → act a (with_ops s (Some (block_id n)) os) ≡ with_ops s (Some (block_id n)) (in_this_block a n os inside)
@@ -140,11 +140,11 @@ made-added : (m : Module) (a : Adding) → IsOneOf (parent_of a) (open_in m)
     → act a (with_ops no_rows None m) ≡ with_ops no_rows None (added m a)
 made-added m (to_block None more) i = twice-ops m more no_rows None
 made-added m (to_block (Some b) more) (inl e) = absurd (cc)
-made-added m (to_block (Some b) more) (inr i) = add-ops m _ no_rows None start refl i
+made-added m (to_block (Some b) more) (inr i) = add-ops m _ no_rows None first_numbers refl i
 made-added m (to_op o more) (inl e) = absurd (cc)
-made-added m (to_op o more) (inr i) = add-ops m _ no_rows None start refl i
+made-added m (to_op o more) (inr i) = add-ops m _ no_rows None first_numbers refl i
 made-added m (to_region r more) (inl e) = absurd (cc)
-made-added m (to_region r more) (inr i) = add-ops m _ no_rows None start refl i
+made-added m (to_region r more) (inr i) = add-ops m _ no_rows None first_numbers refl i
 
 -- the rows of a module, with what is added to an open place, are those of the module with it
 pub rows-added : (m : Module) (a : Adding) → IsOpen m (parent_of a)
@@ -152,7 +152,7 @@ pub rows-added : (m : Module) (a : Adding) → IsOpen m (parent_of a)
 rows-added m a i = ap (act a) (sym (rows-made m)) ∙ made-added m a i.among ∙ rows-made (added m a)
 
 -- how many of each kind a module has, as its rows have them
-pub numbers-rows : (m : Module) → numbers_of (rows_of m) ≡ behind start m
+pub numbers-rows : (m : Module) → numbers_of (rows_of m) ≡ behind first_numbers m
 numbers-rows m = ap numbers_of (sym (rows-made m)) ∙ numbers-ops m no_rows None
 
 -- its values are those that the calls add

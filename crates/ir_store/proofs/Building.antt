@@ -20,7 +20,7 @@ use Rattle.ir_store.specs.Numbering.{ops_in, regions_in, blocks_in}
 use Rattle.ir_store.specs.Named.{op_id, region_id, block_id}
 use Rattle.ir_store.specs.Growth.{in_block, in_op, in_region, IsOpen, Opens, parent_of, to_block}
 use Rattle.ir_store.specs.Growth.{to_op, to_region, added, one_op, one_region, one_block}
-use Rattle.ir_store.specs.Store.{Head, Module}
+use Rattle.ir_store.specs.Store.{StoredHead, Module}
 use Rattle.ir_store.specs.Rows.{rows_of, op_node, region_node, block_node, with_op, with_region}
 use Rattle.ir_store.specs.Rows.{with_block}
 use Rattle.ir_store.proofs.Replay.{Rs, Bs, with_ops, with_regions, with_blocks, twice-ops}
@@ -37,7 +37,7 @@ same-added m a b c x y z same =
     rows-same _ _ (sym (rows-added (added m a) b y) ∙ ap (act b) (sym (rows-added m a x)) ∙ same ∙ rows-added m c z)
 
 -- an operation, and then its regions
-pub built-op : (m new end : Module) (b : Option BlockId) (h : Head) (rs : Rs) (id : OpId)
+pub built-op : (m new end : Module) (b : Option BlockId) (h : StoredHead) (rs : Rs) (id : OpId)
     → IsOpen m (in_block b)
     → new ≡ added m (to_block b (one_op h)) → id.0 ≡ length (ops_in m) → Opens m new (in_block b) (in_op id)
     → end ≡ added new (to_op id rs) → end ≡ added m (to_block b (then_op h rs no_ops))

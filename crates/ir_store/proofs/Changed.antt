@@ -10,11 +10,11 @@ set-changed g f [] i x d h e = absurd (omega arith)
 set-changed g f (y ∷ ys) zero x d h e = cc
 set-changed g f (y ∷ ys) (suc i) x d h e = ap (λ zs. g y ∷ zs) (set-changed g f ys i x d (omega arith) e)
 
-pub set-changed_plain : {A : Type 0} (f : A → A) (xs : List A) (i : ℕ) (x d : A) → i < length xs
+pub set-changed-plain : {A : Type 0} (f : A → A) (xs : List A) (i : ℕ) (x d : A) → i < length xs
     → x ≡ f (get_or xs i d) → set xs i x ≡ changed f i xs
-set-changed_plain f [] i x d h e = absurd (omega arith)
-set-changed_plain f (y ∷ ys) zero x d h e = cc
-set-changed_plain f (y ∷ ys) (suc i) x d h e = ap (λ zs. y ∷ zs) (set-changed_plain f ys i x d (omega arith) e)
+set-changed-plain f [] i x d h e = absurd (omega arith)
+set-changed-plain f (y ∷ ys) zero x d h e = cc
+set-changed-plain f (y ∷ ys) (suc i) x d h e = ap (λ zs. y ∷ zs) (set-changed-plain f ys i x d (omega arith) e)
 
 -- a change keeps the length
 pub length-changed : {A : Type 0} (f : A → A) (xs : List A) (i : ℕ)

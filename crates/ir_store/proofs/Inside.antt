@@ -7,13 +7,13 @@ use Rattle.ir_store.specs.declared.rows.BlockId.{BlockId}
 use Rattle.ir_store.specs.Modules.{OpHead, Ops, Regions, Blocks, no_ops, then_op, no_regions}
 use Rattle.ir_store.specs.Modules.{region, no_blocks, block, types_in, types_in_regions}
 use Rattle.ir_store.specs.Modules.{types_in_blocks}
-use Rattle.ir_store.specs.Numbering.{Numbers, start, past_op, past_region, past_block, behind}
+use Rattle.ir_store.specs.Numbering.{Numbers, first_numbers, past_op, past_region, past_block, behind}
 use Rattle.ir_store.specs.Numbering.{behind_regions, behind_blocks, OpSite, RegionSite, BlockSite}
 use Rattle.ir_store.specs.Numbering.{Part, an_op, a_region, a_block, parts, parts_of_regions}
 use Rattle.ir_store.specs.Numbering.{parts_of_blocks, op_sites, region_sites, block_sites, ops_in}
 use Rattle.ir_store.specs.Numbering.{regions_in, blocks_in}
 use Rattle.ir_store.specs.Named.{op_id, region_id, block_id, op_at, region_at, block_at, HaveTypes}
-use Rattle.ir_store.proofs.Replay.{op_sites-append, region_sites-append, block_sites-append}
+use Rattle.ir_store.proofs.Replay.{op-sites-append, region-sites-append, block-sites-append}
 
 -- these items stand in the list from k on
 abbrev pub StandsAt : {X : Type 0} → List X → ℕ → List X → Type 0
@@ -82,9 +82,9 @@ module _ {N V : Type 0} where
   counts-join : (c d e : Numbers) (ps qs : List (Part N V)) (ts us : List V) → Counts c d ps ts
       → Counts d e qs us → Counts c e (ps ++ qs) (ts ++ us)
   counts-join c d e ps qs ts us x y = record {
-    ops = rw (op_sites-append ps qs) (omega (arith, length-append (op_sites ps) (op_sites qs)));
-    regions = rw (region_sites-append ps qs) (omega (arith, length-append (region_sites ps) (region_sites qs)));
-    blocks = rw (block_sites-append ps qs) (omega (arith, length-append (block_sites ps) (block_sites qs)));
+    ops = rw (op-sites-append ps qs) (omega (arith, length-append (op_sites ps) (op_sites qs)));
+    regions = rw (region-sites-append ps qs) (omega (arith, length-append (region_sites ps) (region_sites qs)));
+    blocks = rw (block-sites-append ps qs) (omega (arith, length-append (block_sites ps) (block_sites qs)));
     values = omega (arith, length-append ts us);
   }
 
@@ -136,18 +136,18 @@ module _ {N V : Type 0} where
   inside-left : (m : Ops N V) (c : Numbers) (ps qs : List (Part N V)) (ts us : List V)
       → Inside m c (ps ++ qs) (ts ++ us) → Inside m c ps ts
   inside-left m c ps qs ts us x = record {
-    ops = stands-left (ops_in m) c.ops (op_sites ps) (op_sites qs) (rw op_sites-append at x.ops);
-    regions = stands-left (regions_in m) c.regions (region_sites ps) (region_sites qs) (rw region_sites-append at x.regions);
-    blocks = stands-left (blocks_in m) c.blocks (block_sites ps) (block_sites qs) (rw block_sites-append at x.blocks);
+    ops = stands-left (ops_in m) c.ops (op_sites ps) (op_sites qs) (rw op-sites-append at x.ops);
+    regions = stands-left (regions_in m) c.regions (region_sites ps) (region_sites qs) (rw region-sites-append at x.regions);
+    blocks = stands-left (blocks_in m) c.blocks (block_sites ps) (block_sites qs) (rw block-sites-append at x.blocks);
     types = stands-left (types_in m) c.values ts us x.types;
   }
 
   inside-right : (m : Ops N V) (c d : Numbers) (ps qs : List (Part N V)) (ts us : List V)
       → Counts c d ps ts → Inside m c (ps ++ qs) (ts ++ us) → Inside m d qs us
   inside-right m c d ps qs ts us k x = record {
-    ops = stands-right (ops_in m) c.ops d.ops (op_sites ps) (op_sites qs) k.ops (rw op_sites-append at x.ops);
-    regions = stands-right (regions_in m) c.regions d.regions (region_sites ps) (region_sites qs) k.regions (rw region_sites-append at x.regions);
-    blocks = stands-right (blocks_in m) c.blocks d.blocks (block_sites ps) (block_sites qs) k.blocks (rw block_sites-append at x.blocks);
+    ops = stands-right (ops_in m) c.ops d.ops (op_sites ps) (op_sites qs) k.ops (rw op-sites-append at x.ops);
+    regions = stands-right (regions_in m) c.regions d.regions (region_sites ps) (region_sites qs) k.regions (rw region-sites-append at x.regions);
+    blocks = stands-right (blocks_in m) c.blocks d.blocks (block_sites ps) (block_sites qs) k.blocks (rw block-sites-append at x.blocks);
     types = stands-right (types_in m) c.values d.values ts us k.values x.types;
   }
 
@@ -228,7 +228,7 @@ module _ {N V : Type 0} where
         rest = inside-right m d f _ _ _ _ (counts-ops os d) tail;
       }
 
-  pub inside-all : (m : Ops N V) → Inside m start (parts start m) (types_in m)
+  pub inside-all : (m : Ops N V) → Inside m first_numbers (parts first_numbers m) (types_in m)
   inside-all m = record { ops = stands-all _; regions = stands-all _; blocks = stands-all _; types = stands-all _ }
 
   -- ---- of each part
@@ -278,38 +278,38 @@ module _ {N V : Type 0} where
         let o = inside-block m c args os bs x in
         ((o.here, o.types, o.inside), placed-join m _ _ (placed-ops os m (past_block c args) o.inside) (placed-blocks bs m (behind (past_block c args) os) o.rest))
 
-  placed-op_at : (m : Ops N V) (ps : List (Part N V)) (i : ℕ) (x : OpSite N V) → ArePlaced m ps
+  placed-op-at : (m : Ops N V) (ps : List (Part N V)) (i : ℕ) (x : OpSite N V) → ArePlaced m ps
       → slice_get (op_sites ps) i ≡ Some x → IsPlaced m (an_op x)
-  placed-op_at m [] i x g e = absurd (cc)
-  placed-op_at m (an_op y ∷ ps) zero x g e = let same : y ≡ x = cc in subst (λ x. IsPlaced m (an_op x)) same g.0
-  placed-op_at m (an_op y ∷ ps) (suc i) x g e = placed-op_at m ps i x g.1 e
-  placed-op_at m (a_region y ∷ ps) i x g e = placed-op_at m ps i x g.1 e
-  placed-op_at m (a_block y ∷ ps) i x g e = placed-op_at m ps i x g.1 e
+  placed-op-at m [] i x g e = absurd (cc)
+  placed-op-at m (an_op y ∷ ps) zero x g e = let same : y ≡ x = cc in subst (λ x. IsPlaced m (an_op x)) same g.0
+  placed-op-at m (an_op y ∷ ps) (suc i) x g e = placed-op-at m ps i x g.1 e
+  placed-op-at m (a_region y ∷ ps) i x g e = placed-op-at m ps i x g.1 e
+  placed-op-at m (a_block y ∷ ps) i x g e = placed-op-at m ps i x g.1 e
 
-  placed-region_at : (m : Ops N V) (ps : List (Part N V)) (i : ℕ) (x : RegionSite N V)
+  placed-region-at : (m : Ops N V) (ps : List (Part N V)) (i : ℕ) (x : RegionSite N V)
       → ArePlaced m ps → slice_get (region_sites ps) i ≡ Some x → IsPlaced m (a_region x)
-  placed-region_at m [] i x g e = absurd (cc)
-  placed-region_at m (a_region y ∷ ps) zero x g e = let same : y ≡ x = cc in subst (λ x. IsPlaced m (a_region x)) same g.0
-  placed-region_at m (a_region y ∷ ps) (suc i) x g e = placed-region_at m ps i x g.1 e
-  placed-region_at m (an_op y ∷ ps) i x g e = placed-region_at m ps i x g.1 e
-  placed-region_at m (a_block y ∷ ps) i x g e = placed-region_at m ps i x g.1 e
+  placed-region-at m [] i x g e = absurd (cc)
+  placed-region-at m (a_region y ∷ ps) zero x g e = let same : y ≡ x = cc in subst (λ x. IsPlaced m (a_region x)) same g.0
+  placed-region-at m (a_region y ∷ ps) (suc i) x g e = placed-region-at m ps i x g.1 e
+  placed-region-at m (an_op y ∷ ps) i x g e = placed-region-at m ps i x g.1 e
+  placed-region-at m (a_block y ∷ ps) i x g e = placed-region-at m ps i x g.1 e
 
-  placed-block_at : (m : Ops N V) (ps : List (Part N V)) (i : ℕ) (x : BlockSite N V)
+  placed-block-at : (m : Ops N V) (ps : List (Part N V)) (i : ℕ) (x : BlockSite N V)
       → ArePlaced m ps → slice_get (block_sites ps) i ≡ Some x → IsPlaced m (a_block x)
-  placed-block_at m [] i x g e = absurd (cc)
-  placed-block_at m (a_block y ∷ ps) zero x g e = let same : y ≡ x = cc in subst (λ x. IsPlaced m (a_block x)) same g.0
-  placed-block_at m (a_block y ∷ ps) (suc i) x g e = placed-block_at m ps i x g.1 e
-  placed-block_at m (an_op y ∷ ps) i x g e = placed-block_at m ps i x g.1 e
-  placed-block_at m (a_region y ∷ ps) i x g e = placed-block_at m ps i x g.1 e
+  placed-block-at m [] i x g e = absurd (cc)
+  placed-block-at m (a_block y ∷ ps) zero x g e = let same : y ≡ x = cc in subst (λ x. IsPlaced m (a_block x)) same g.0
+  placed-block-at m (a_block y ∷ ps) (suc i) x g e = placed-block-at m ps i x g.1 e
+  placed-block-at m (an_op y ∷ ps) i x g e = placed-block-at m ps i x g.1 e
+  placed-block-at m (a_region y ∷ ps) i x g e = placed-block-at m ps i x g.1 e
 
   pub op-placed : (m : Ops N V) (id : OpId) (x : OpSite N V) → op_at m id ≡ Some x
       → IsPlaced m (an_op x)
-  op-placed m id x e = placed-op_at m _ id.0 x (placed-ops m m start (inside-all m)) e
+  op-placed m id x e = placed-op-at m _ id.0 x (placed-ops m m first_numbers (inside-all m)) e
 
   pub region-placed : (m : Ops N V) (id : RegionId) (x : RegionSite N V) → region_at m id ≡ Some x
       → IsPlaced m (a_region x)
-  region-placed m id x e = placed-region_at m _ id.0 x (placed-ops m m start (inside-all m)) e
+  region-placed m id x e = placed-region-at m _ id.0 x (placed-ops m m first_numbers (inside-all m)) e
 
   pub block-placed : (m : Ops N V) (id : BlockId) (x : BlockSite N V) → block_at m id ≡ Some x
       → IsPlaced m (a_block x)
-  block-placed m id x e = placed-block_at m _ id.0 x (placed-ops m m start (inside-all m)) e
+  block-placed m id x e = placed-block-at m _ id.0 x (placed-ops m m first_numbers (inside-all m)) e

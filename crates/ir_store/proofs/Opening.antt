@@ -5,16 +5,16 @@ use Rattle.std.proofs.lemmas.Bool.Decides.{eqb_tells}
 use Rattle.ir_store.specs.Modules.{OpHead, Ops, Regions, Blocks, no_ops, then_op, no_regions}
 use Rattle.ir_store.specs.Modules.{region, no_blocks, block}
 use Rattle.ir_store.specs.Modules.{joined_ops, joined_regions, joined_blocks}
-use Rattle.ir_store.specs.Numbering.{Numbers, start, past_op, past_region, past_block, behind}
+use Rattle.ir_store.specs.Numbering.{Numbers, first_numbers, past_op, past_region, past_block, behind}
 use Rattle.ir_store.specs.Numbering.{behind_regions, behind_blocks}
 use Rattle.ir_store.specs.Named.{op_id, region_id, block_id}
-use Rattle.ir_store.specs.Growth.{Place, in_block, in_op, in_region, IsOneOf, Addition, to_block}
+use Rattle.ir_store.specs.Growth.{Parent, in_block, in_op, in_region, IsOneOf, Addition, to_block}
 use Rattle.ir_store.specs.Growth.{to_op, to_region, open_ops, open_regions, open_blocks, open_in}
 use Rattle.ir_store.specs.Growth.{IsOpen, parent_of, in_this_op, in_this_region, in_this_block}
 use Rattle.ir_store.specs.Growth.{added_ops, added_regions, added_blocks, added, Opens}
 
 -- what is open in what is added, which begins at k
-abbrev pub opened : {N V : Type 0} → Addition N V → Numbers → List Place
+abbrev pub opened : {N V : Type 0} → Addition N V → Numbers → List Parent
 opened (to_block b more) k = open_ops k more
 opened (to_op o more) k = open_regions k more
 opened (to_region r more) k = open_blocks k more
@@ -37,16 +37,16 @@ HasPart (to_block b more) = HasOp more
 HasPart (to_op o more) = HasRegion more
 HasPart (to_region r more) = HasBlock more
 
-one-of-middle : (p : Place) (xs ys : List Place) → IsOneOf p (xs ++ p ∷ ys)
+one-of-middle : (p : Parent) (xs ys : List Parent) → IsOneOf p (xs ++ p ∷ ys)
 one-of-middle p [] ys = inl refl
 one-of-middle p (x ∷ xs) ys = inr (one-of-middle p xs ys)
 
-one-of-next : (p q : Place) (xs ys : List Place) → IsOneOf q (xs ++ p ∷ (q ∷ ys))
+one-of-next : (p q : Parent) (xs ys : List Parent) → IsOneOf q (xs ++ p ∷ (q ∷ ys))
 one-of-next p q [] ys = inr (inl refl)
 one-of-next p q (x ∷ xs) ys = inr (one-of-next p q xs ys)
 
 -- open places are places of the module
-abbrev pub IsBelow : Numbers → Place → Type 0
+abbrev pub IsBelow : Numbers → Parent → Type 0
 IsBelow d (in_block None) = Unit {0}
 IsBelow d (in_block (Some b)) = b.0 < d.blocks
 IsBelow d (in_op o) = o.0 < d.ops
@@ -57,20 +57,20 @@ pub record NoMore (c d : Numbers) : Type 0 where
   pub regions : c.regions ≤ d.regions
   pub blocks : c.blocks ≤ d.blocks
 
-no_more-then : (c d e : Numbers) → NoMore c d → NoMore d e → NoMore c e
-no_more-then c d e x y = record { ops = omega arith; regions = omega arith; blocks = omega arith }
+no-more-then : (c d e : Numbers) → NoMore c d → NoMore d e → NoMore c e
+no-more-then c d e x y = record { ops = omega arith; regions = omega arith; blocks = omega arith }
 
 -- what an addition, of what begins at k, does to open places
-pub record Grows {N V : Type 0} (a : Addition N V) (k : Numbers) (old new : List Place) : Type 0 where
-  pub round : List Place
-  pub inside : List Place
-  pub last : List Place
+pub record Grows {N V : Type 0} (a : Addition N V) (k : Numbers) (old new : List Parent) : Type 0 where
+  pub round : List Parent
+  pub inside : List Parent
+  pub last : List Parent
   pub was : old ≡ round ++ parent_of a ∷ inside
   pub is : new ≡ round ++ parent_of a ∷ last
   pub fresh : HasPart a → last ≡ opened a k
 
 module _ {N V : Type 0} where
-  grows-under : (a : Addition N V) (k : Numbers) (p : Place) (old new : List Place)
+  grows-under : (a : Addition N V) (k : Numbers) (p : Parent) (old new : List Parent)
       → Grows a k old new → Grows a k (p ∷ old) (p ∷ new)
   grows-under a k p old new g = record {
     round = p ∷ g.round;
@@ -117,17 +117,17 @@ module _ {N V : Type 0} where
   joined-open (then_op h rs no_ops) more c has = past-op h rs more c has
   joined-open (then_op h rs (then_op g qs os)) more c has = joined-open (then_op g qs os) more (behind_regions (past_op c h) rs) has
 
-  joined-open_regions : (rs more : Regions N V) (c : Numbers) → HasRegion more
+  joined-open-regions : (rs more : Regions N V) (c : Numbers) → HasRegion more
       → open_regions c (joined_regions rs more) ≡ open_regions (behind_regions c rs) more
-  joined-open_regions no_regions more c has = refl
-  joined-open_regions (region bs no_regions) more c has = past-region bs more c has
-  joined-open_regions (region bs (region ds rs)) more c has = joined-open_regions (region ds rs) more (behind_blocks (past_region c) bs) has
+  joined-open-regions no_regions more c has = refl
+  joined-open-regions (region bs no_regions) more c has = past-region bs more c has
+  joined-open-regions (region bs (region ds rs)) more c has = joined-open-regions (region ds rs) more (behind_blocks (past_region c) bs) has
 
-  joined-open_blocks : (bs more : Blocks N V) (c : Numbers) → HasBlock more
+  joined-open-blocks : (bs more : Blocks N V) (c : Numbers) → HasBlock more
       → open_blocks c (joined_blocks bs more) ≡ open_blocks (behind_blocks c bs) more
-  joined-open_blocks no_blocks more c has = refl
-  joined-open_blocks (block args os no_blocks) more c has = past-block args os more c has
-  joined-open_blocks (block args os (block ds ps bs)) more c has = joined-open_blocks (block ds ps bs) more (behind (past_block c args) os) has
+  joined-open-blocks no_blocks more c has = refl
+  joined-open-blocks (block args os no_blocks) more c has = past-block args os more c has
+  joined-open-blocks (block args os (block ds ps bs)) more c has = joined-open-blocks (block ds ps bs) more (behind (past_block c args) os) has
 
   grows-op : (a : Addition N V) (n : ℕ) (rs inside : Regions N V) (c : Numbers)
       → IsOneOf (parent_of a) (in_op (op_id n) ∷ open_regions c rs)
@@ -144,7 +144,7 @@ module _ {N V : Type 0} where
       last = open_regions c (joined_regions rs more);
       was = ap (λ o. in_op o ∷ open_regions c rs) is;
       is = ap (λ o. in_op o ∷ open_regions c (joined_regions rs more)) is;
-      fresh = joined-open_regions rs more c;
+      fresh = joined-open-regions rs more c;
     }))
     | inr other ↦ elim m [
       | inl e ↦ absurd (other.1 (let is : o ≡ op_id n = cc in ap (λ o. o.0) is))
@@ -167,7 +167,7 @@ module _ {N V : Type 0} where
       last = open_blocks c (joined_blocks bs more);
       was = ap (λ o. in_region o ∷ open_blocks c bs) is;
       is = ap (λ o. in_region o ∷ open_blocks c (joined_blocks bs more)) is;
-      fresh = joined-open_blocks bs more c;
+      fresh = joined-open-blocks bs more c;
     }))
     | inr other ↦ elim m [
       | inl e ↦ absurd (other.1 (let is : r ≡ region_id n = cc in ap (λ o. o.0) is))
@@ -233,21 +233,21 @@ module _ {N V : Type 0} where
 
   -- what an addition does to the open places of a module
   pub open-added : (m : Ops N V) (a : Addition N V) → IsOneOf (parent_of a) (open_in m)
-      → Grows a (behind start m) (open_in m) (open_in (added m a))
+      → Grows a (behind first_numbers m) (open_in m) (open_in (added m a))
   open-added m (to_block None more) i = record {
     round = [];
-    inside = open_ops start m;
-    last = open_ops start (joined_ops m more);
+    inside = open_ops first_numbers m;
+    last = open_ops first_numbers (joined_ops m more);
     was = refl;
     is = refl;
-    fresh = joined-open m more start;
+    fresh = joined-open m more first_numbers;
   }
   open-added m (to_block (Some b) more) (inl e) = absurd (cc)
-  open-added m (to_block (Some b) more) (inr i) = grows-under _ _ _ _ _ (grow-open_ops m _ start i)
+  open-added m (to_block (Some b) more) (inr i) = grows-under _ _ _ _ _ (grow-open_ops m _ first_numbers i)
   open-added m (to_op o more) (inl e) = absurd (cc)
-  open-added m (to_op o more) (inr i) = grows-under _ _ _ _ _ (grow-open_ops m _ start i)
+  open-added m (to_op o more) (inr i) = grows-under _ _ _ _ _ (grow-open_ops m _ first_numbers i)
   open-added m (to_region r more) (inl e) = absurd (cc)
-  open-added m (to_region r more) (inr i) = grows-under _ _ _ _ _ (grow-open_ops m _ start i)
+  open-added m (to_region r more) (inr i) = grows-under _ _ _ _ _ (grow-open_ops m _ first_numbers i)
 
   -- the place to which something was added is open still
   pub parent-open : (m : Ops N V) (a : Addition N V) → IsOpen m (parent_of a)
@@ -261,10 +261,10 @@ module _ {N V : Type 0} where
   top-open m = record { among = inl refl }
 
   -- a parent is open when a child was put into it, and so is the child
-  pub opens-parent : (m n : Ops N V) (p q : Place) → Opens m n p q → IsOpen n p
+  pub opens-parent : (m n : Ops N V) (p q : Parent) → Opens m n p q → IsOpen n p
   opens-parent m n p q o = record { among = subst (IsOneOf p) (sym o.is) (one-of-middle p o.round (q ∷ [])) }
 
-  pub opens-child : (m n : Ops N V) (p q : Place) → Opens m n p q → IsOpen n q
+  pub opens-child : (m n : Ops N V) (p q : Parent) → Opens m n p q → IsOpen n q
   opens-child m n p q o = record { among = subst (IsOneOf q) (sym o.is) (one-of-next p q o.round []) }
 
   mutual
@@ -290,7 +290,7 @@ module _ {N V : Type 0} where
         record { ops = omega arith; regions = omega arith; blocks = omega arith }
 
   mutual
-    pub below-ops : (os : Ops N V) (c : Numbers) (p : Place) → IsOneOf p (open_ops c os)
+    pub below-ops : (os : Ops N V) (c : Numbers) (p : Parent) → IsOneOf p (open_ops c os)
         → IsBelow (behind c os) p
     below-ops no_ops c p m = absurd m
     below-ops (then_op h rs no_ops) c p (inl e) =
@@ -298,7 +298,7 @@ module _ {N V : Type 0} where
     below-ops (then_op h rs no_ops) c p (inr i) = below-regions rs (past_op c h) p i
     below-ops (then_op h rs (then_op g qs os)) c p m = below-ops (then_op g qs os) (behind_regions (past_op c h) rs) p m
 
-    pub below-regions : (rs : Regions N V) (c : Numbers) (p : Place) → IsOneOf p (open_regions c rs)
+    pub below-regions : (rs : Regions N V) (c : Numbers) (p : Parent) → IsOneOf p (open_regions c rs)
         → IsBelow (behind_regions c rs) p
     below-regions no_regions c p m = absurd m
     below-regions (region bs no_regions) c p (inl e) =
@@ -306,7 +306,7 @@ module _ {N V : Type 0} where
     below-regions (region bs no_regions) c p (inr i) = below-blocks bs (past_region c) p i
     below-regions (region bs (region ds rs)) c p m = below-regions (region ds rs) (behind_blocks (past_region c) bs) p m
 
-    pub below-blocks : (bs : Blocks N V) (c : Numbers) (p : Place) → IsOneOf p (open_blocks c bs)
+    pub below-blocks : (bs : Blocks N V) (c : Numbers) (p : Parent) → IsOneOf p (open_blocks c bs)
         → IsBelow (behind_blocks c bs) p
     below-blocks no_blocks c p m = absurd m
     below-blocks (block args os no_blocks) c p (inl e) =
@@ -314,9 +314,9 @@ module _ {N V : Type 0} where
     below-blocks (block args os no_blocks) c p (inr i) = below-ops os (past_block c args) p i
     below-blocks (block args os (block more ps bs)) c p m = below-blocks (block more ps bs) (behind (past_block c args) os) p m
 
-  below-all : (m : Ops N V) (p : Place) → IsOneOf p (open_in m) → IsBelow (behind start m) p
-  below-all m p (inl e) = subst (IsBelow (behind start m)) (sym e) tt
-  below-all m p (inr i) = below-ops m start p i
+  below-all : (m : Ops N V) (p : Parent) → IsOneOf p (open_in m) → IsBelow (behind first_numbers m) p
+  below-all m p (inl e) = subst (IsBelow (behind first_numbers m)) (sym e) tt
+  below-all m p (inr i) = below-ops m first_numbers p i
 
-  pub open-below : (m : Ops N V) (p : Place) → IsOpen m p → IsBelow (behind start m) p
+  pub open-below : (m : Ops N V) (p : Parent) → IsOpen m p → IsBelow (behind first_numbers m) p
   open-below m p o = below-all m p o.among

@@ -7,11 +7,11 @@ use Rattle.attr_value.specs.declared.head.ValueId.{ValueId}
 use Rattle.ir_store.specs.declared.rows.OpId.{OpId}
 use Rattle.ir_store.specs.declared.rows.RegionId.{RegionId}
 use Rattle.ir_store.specs.declared.rows.BlockId.{BlockId}
-use Rattle.ir_store.specs.declared.tables.RegionEntry.{RegionEntry}
+use Rattle.ir_store.specs.declared.tables.RegionRow.{RegionRow}
 use Rattle.ir_store.specs.declared.tables.BlockEntry.{BlockEntry}
 use Rattle.ir_store.specs.Modules.{no_ops, then_op, no_regions, region, no_blocks, block, types_in}
 use Rattle.ir_store.specs.Modules.{types_in_regions, types_in_blocks}
-use Rattle.ir_store.specs.Numbering.{Numbers, start, past_op, past_region, past_block, behind}
+use Rattle.ir_store.specs.Numbering.{Numbers, first_numbers, past_op, past_region, past_block, behind}
 use Rattle.ir_store.specs.Numbering.{behind_regions, behind_blocks, OpSite, RegionSite, BlockSite}
 use Rattle.ir_store.specs.Numbering.{Part, an_op, a_region, a_block, parts, parts_of_regions}
 use Rattle.ir_store.specs.Numbering.{parts_of_blocks, op_sites, region_sites, block_sites, ops_in}
@@ -67,20 +67,20 @@ block-row m id x e = slice_get-map block_node (blocks_in m) id.0 ∙ ap (option_
 
 -- ---- reading back
 
-pub op_now : (s : Rows) (steps : ℕ) (id : OpId) (ids : List OpId) (n : OpNode)
+pub op-now : (s : Rows) (steps : ℕ) (id : OpId) (ids : List OpId) (n : OpNode)
     → slice_get s.ops id.0 ≡ Some n
     → read_ops s (suc steps) (id ∷ ids) ≡ then_op n.head (read_regions s steps n.regions) (read_ops s steps ids)
-op_now s steps id ids n e = rw (e, read_ops)
+op-now s steps id ids n e = rw (e, read_ops)
 
-pub region_now : (s : Rows) (steps : ℕ) (id : RegionId) (ids : List RegionId) (n : RegionEntry)
+pub region-now : (s : Rows) (steps : ℕ) (id : RegionId) (ids : List RegionId) (n : RegionRow)
     → slice_get s.regions id.0 ≡ Some n
     → read_regions s (suc steps) (id ∷ ids) ≡ region (read_blocks s steps n.blocks) (read_regions s steps ids)
-region_now s steps id ids n e = rw (e, read_regions)
+region-now s steps id ids n e = rw (e, read_regions)
 
-pub block_now : (s : Rows) (steps : ℕ) (id : BlockId) (ids : List BlockId) (n : BlockEntry)
+pub block-now : (s : Rows) (steps : ℕ) (id : BlockId) (ids : List BlockId) (n : BlockEntry)
     → slice_get s.blocks id.0 ≡ Some n
     → read_blocks s (suc steps) (id ∷ ids) ≡ block (take n.count (drop n.first s.types)) (read_ops s steps n.ops) (read_blocks s steps ids)
-block_now s steps id ids n e = rw (e, read_blocks)
+block-now s steps id ids n e = rw (e, read_blocks)
 
 mutual
   pub back-ops : (steps : ℕ) (os m : Module) (c : Numbers) → Inside m c (parts c os) (types_in os)
@@ -95,7 +95,7 @@ mutual
       let many = length-append (parts_of_regions d rs) (parts f os) in
       let inside : read_regions (rows_of m) steps (region_ids d rs) ≡ rs = back-regions steps rs m d o.inside (omega arith) in
       let rest : read_ops (rows_of m) steps (op_ids f os) ≡ os = back-ops steps os m f o.rest (omega arith) in
-      op_now (rows_of m) steps (op_id c.ops) (op_ids f os) _ (op-row m (op_id c.ops) _ o.here)
+      op-now (rows_of m) steps (op_id c.ops) (op_ids f os) _ (op-row m (op_id c.ops) _ o.here)
       ∙ ap (λ rs. then_op h rs (read_ops (rows_of m) steps (op_ids f os))) inside ∙ ap (then_op h rs) rest
 
   pub back-regions : (steps : ℕ) (rs : Rs) (m : Module) (c : Numbers)
@@ -112,7 +112,7 @@ mutual
       let many = length-append (parts_of_blocks d bs) (parts_of_regions f rs) in
       let inside : read_blocks (rows_of m) steps (block_ids d bs) ≡ bs = back-blocks steps bs m d o.inside (omega arith) in
       let rest : read_regions (rows_of m) steps (region_ids f rs) ≡ rs = back-regions steps rs m f o.rest (omega arith) in
-      region_now (rows_of m) steps (region_id c.regions) (region_ids f rs) _ (region-row m (region_id c.regions) _ o.here)
+      region-now (rows_of m) steps (region_id c.regions) (region_ids f rs) _ (region-row m (region_id c.regions) _ o.here)
       ∙ ap (λ bs. region bs (read_regions (rows_of m) steps (region_ids f rs))) inside ∙ ap (region bs) rest
 
   pub back-blocks : (steps : ℕ) (bs : Bs) (m : Module) (c : Numbers)
@@ -130,7 +130,7 @@ mutual
       let types : take (length args) (drop c.values (types_in m)) ≡ args = stands-piece (types_in m) args c.values o.types in
       let inside : read_ops (rows_of m) steps (op_ids d os) ≡ os = back-ops steps os m d o.inside (omega arith) in
       let rest : read_blocks (rows_of m) steps (block_ids f bs) ≡ bs = back-blocks steps bs m f o.rest (omega arith) in
-      block_now (rows_of m) steps (block_id c.blocks) (block_ids f bs) _ (block-row m (block_id c.blocks) _ o.here)
+      block-now (rows_of m) steps (block_id c.blocks) (block_ids f bs) _ (block-row m (block_id c.blocks) _ o.here)
       ∙ ap (λ args. block args (read_ops (rows_of m) steps (op_ids d os)) (read_blocks (rows_of m) steps (block_ids f bs))) types
       ∙ ap (λ os. block args os (read_blocks (rows_of m) steps (block_ids f bs))) inside ∙ ap (block args os) rest
 
@@ -145,8 +145,8 @@ parts-length (a_block x ∷ ps) = let rest = parts-length ps in omega arith
 -- the module of the rows of a module is that module
 pub module-rows : (m : Module) → module_of (rows_of m) ≡ m
 module-rows m =
-    back-ops _ m m start (inside-all m)
-    (omega (arith, parts-length (parts start m), length-map (op_sites (parts start m)) op_node, length-map (region_sites (parts start m)) region_node, length-map (block_sites (parts start m)) block_node))
+    back-ops _ m m first_numbers (inside-all m)
+    (omega (arith, parts-length (parts first_numbers m), length-map (op_sites (parts first_numbers m)) op_node, length-map (region_sites (parts first_numbers m)) region_node, length-map (block_sites (parts first_numbers m)) block_node))
 
 -- modules with the same rows are the same
 pub rows-same : (a b : Module) → rows_of a ≡ rows_of b → a ≡ b

@@ -7,17 +7,17 @@ use Rattle.attr_value.specs.declared.head.ValueId.{ValueId}
 use Rattle.ir_store.specs.declared.rows.OpId.{OpId}
 use Rattle.ir_store.specs.declared.rows.RegionId.{RegionId}
 use Rattle.ir_store.specs.declared.rows.BlockId.{BlockId}
-use Rattle.ir_store.specs.declared.tables.RegionEntry.{RegionEntry}
+use Rattle.ir_store.specs.declared.tables.RegionRow.{RegionRow}
 use Rattle.ir_store.specs.declared.tables.BlockEntry.{BlockEntry}
 use Rattle.ir_store.specs.Modules.{Regions, Blocks, no_ops, then_op, no_regions, region, no_blocks}
 use Rattle.ir_store.specs.Modules.{block, types_in, types_in_regions, types_in_blocks}
 use Rattle.ir_store.specs.Modules.{joined_ops, joined_regions, joined_blocks}
-use Rattle.ir_store.specs.Numbering.{Numbers, start, past_op, past_region, past_block, behind}
+use Rattle.ir_store.specs.Numbering.{Numbers, first_numbers, past_op, past_region, past_block, behind}
 use Rattle.ir_store.specs.Numbering.{behind_regions, behind_blocks, Part, an_op, a_region, a_block}
 use Rattle.ir_store.specs.Numbering.{parts, parts_of_regions, parts_of_blocks, op_sites}
 use Rattle.ir_store.specs.Numbering.{region_sites, block_sites}
 use Rattle.ir_store.specs.Named.{op_id, region_id, block_id}
-use Rattle.ir_store.specs.Store.{OpName, Head, Module}
+use Rattle.ir_store.specs.Store.{OpName, StoredHead, Module}
 use Rattle.ir_store.specs.Rows.{OpNode, Rows, no_rows, op_ids, region_ids, block_ids, op_node}
 use Rattle.ir_store.specs.Rows.{region_node, block_node, op_nodes, region_nodes, block_nodes}
 use Rattle.ir_store.specs.Rows.{rows_of, changed, top_with, blocks_with, with_op, with_region}
@@ -56,27 +56,27 @@ numbers_of s = record {
   values = length s.types;
 }
 
-same_numbers : (a b c d a' b' c' d' : ℕ) → a ≡ a' → b ≡ b' → c ≡ c' → d ≡ d'
+same-numbers : (a b c d a' b' c' d' : ℕ) → a ≡ a' → b ≡ b' → c ≡ c' → d ≡ d'
     → Path Numbers (record { ops = a; regions = b; blocks = c; values = d }) (record { ops = a'; regions = b'; blocks = c'; values = d' })
-same_numbers a b c d a' b' c' d' p q r s = cc
+same-numbers a b c d a' b' c' d' p q r s = cc
 
-pub numbers-op : (s : Rows) (b : Option BlockId) (h : Head)
+pub numbers-op : (s : Rows) (b : Option BlockId) (h : StoredHead)
     → numbers_of (with_op s b h) ≡ past_op (numbers_of s) h
 numbers-op s None h =
-    same_numbers _ _ _ _ _ _ _ _ (omega (arith, length-append s.ops)) refl refl (length-append s.types h.results)
+    same-numbers _ _ _ _ _ _ _ _ (omega (arith, length-append s.ops)) refl refl (length-append s.types h.results)
 numbers-op s (Some b) h =
-    same_numbers _ _ _ _ _ _ _ _ (omega (arith, length-append s.ops)) refl
+    same-numbers _ _ _ _ _ _ _ _ (omega (arith, length-append s.ops)) refl
     (length-changed {A = BlockEntry} _ s.blocks b.0) (length-append s.types h.results)
 
 pub numbers-region : (s : Rows) (o : OpId)
     → numbers_of (with_region s o) ≡ past_region (numbers_of s)
 numbers-region s o =
-    same_numbers _ _ _ _ _ _ _ _ (length-changed {A = OpNode} _ s.ops o.0) (omega (arith, length-append s.regions)) refl refl
+    same-numbers _ _ _ _ _ _ _ _ (length-changed {A = OpNode} _ s.ops o.0) (omega (arith, length-append s.regions)) refl refl
 
 pub numbers-block : (s : Rows) (r : RegionId) (args : List ValueId)
     → numbers_of (with_block s r args) ≡ past_block (numbers_of s) args
 numbers-block s r args =
-    same_numbers _ _ _ _ _ _ _ _ refl (length-changed {A = RegionEntry} _ s.regions r.0)
+    same-numbers _ _ _ _ _ _ _ _ refl (length-changed {A = RegionRow} _ s.regions r.0)
     (omega (arith, length-append s.blocks)) (length-append s.types args)
 
 mutual
@@ -125,38 +125,38 @@ twice-blocks (block args os bs) more s r = twice-blocks bs more (with_ops (with_
 
 -- ---- the rows of a tree
 
-pub op_sites-append : {N V : Type 0} (ps qs : List (Part N V))
+pub op-sites-append : {N V : Type 0} (ps qs : List (Part N V))
     → op_sites (ps ++ qs) ≡ op_sites ps ++ op_sites qs
-op_sites-append [] qs = refl
-op_sites-append (an_op x ∷ ps) qs = ap (λ l. x ∷ l) (op_sites-append ps qs)
-op_sites-append (a_region x ∷ ps) qs = op_sites-append ps qs
-op_sites-append (a_block x ∷ ps) qs = op_sites-append ps qs
+op-sites-append [] qs = refl
+op-sites-append (an_op x ∷ ps) qs = ap (λ l. x ∷ l) (op-sites-append ps qs)
+op-sites-append (a_region x ∷ ps) qs = op-sites-append ps qs
+op-sites-append (a_block x ∷ ps) qs = op-sites-append ps qs
 
-pub region_sites-append : {N V : Type 0} (ps qs : List (Part N V))
+pub region-sites-append : {N V : Type 0} (ps qs : List (Part N V))
     → region_sites (ps ++ qs) ≡ region_sites ps ++ region_sites qs
-region_sites-append [] qs = refl
-region_sites-append (an_op x ∷ ps) qs = region_sites-append ps qs
-region_sites-append (a_region x ∷ ps) qs = ap (λ l. x ∷ l) (region_sites-append ps qs)
-region_sites-append (a_block x ∷ ps) qs = region_sites-append ps qs
+region-sites-append [] qs = refl
+region-sites-append (an_op x ∷ ps) qs = region-sites-append ps qs
+region-sites-append (a_region x ∷ ps) qs = ap (λ l. x ∷ l) (region-sites-append ps qs)
+region-sites-append (a_block x ∷ ps) qs = region-sites-append ps qs
 
-pub block_sites-append : {N V : Type 0} (ps qs : List (Part N V))
+pub block-sites-append : {N V : Type 0} (ps qs : List (Part N V))
     → block_sites (ps ++ qs) ≡ block_sites ps ++ block_sites qs
-block_sites-append [] qs = refl
-block_sites-append (an_op x ∷ ps) qs = block_sites-append ps qs
-block_sites-append (a_region x ∷ ps) qs = block_sites-append ps qs
-block_sites-append (a_block x ∷ ps) qs = ap (λ l. x ∷ l) (block_sites-append ps qs)
+block-sites-append [] qs = refl
+block-sites-append (an_op x ∷ ps) qs = block-sites-append ps qs
+block-sites-append (a_region x ∷ ps) qs = block-sites-append ps qs
+block-sites-append (a_block x ∷ ps) qs = ap (λ l. x ∷ l) (block-sites-append ps qs)
 
-pub op_nodes-append : (ps qs : List (Part OpName ValueId))
+pub op-nodes-append : (ps qs : List (Part OpName ValueId))
     → op_nodes (ps ++ qs) ≡ op_nodes ps ++ op_nodes qs
-op_nodes-append ps qs = ap (map op_node) (op_sites-append ps qs) ∙ map-append op_node (op_sites ps) (op_sites qs)
+op-nodes-append ps qs = ap (map op_node) (op-sites-append ps qs) ∙ map-append op_node (op_sites ps) (op_sites qs)
 
-pub region_nodes-append : (ps qs : List (Part OpName ValueId))
+pub region-nodes-append : (ps qs : List (Part OpName ValueId))
     → region_nodes (ps ++ qs) ≡ region_nodes ps ++ region_nodes qs
-region_nodes-append ps qs = ap (map region_node) (region_sites-append ps qs) ∙ map-append region_node (region_sites ps) (region_sites qs)
+region-nodes-append ps qs = ap (map region_node) (region-sites-append ps qs) ∙ map-append region_node (region_sites ps) (region_sites qs)
 
-pub block_nodes-append : (ps qs : List (Part OpName ValueId))
+pub block-nodes-append : (ps qs : List (Part OpName ValueId))
     → block_nodes (ps ++ qs) ≡ block_nodes ps ++ block_nodes qs
-block_nodes-append ps qs = ap (map block_node) (block_sites-append ps qs) ∙ map-append block_node (block_sites ps) (block_sites qs)
+block-nodes-append ps qs = ap (map block_node) (block-sites-append ps qs) ∙ map-append block_node (block_sites ps) (block_sites qs)
 
 -- a change of the last
 pub changed-last : {A : Type 0} (f : A → A) (xs : List A) (x : A)
@@ -239,14 +239,14 @@ blocks-more s (Some b) h ids more new =
     changed-append _ b.0 (blocks_with (Some b) ids s.blocks) new (omega (arith, length-changed {A = BlockEntry} (λ n. record n { ops = n.ops ++ ids }) s.blocks b.0))
     ∙ ap (λ l. l ++ new) (changed-twice _ _ (λ n. record n { ops = n.ops ++ (ids ++ more) }) (λ n. ap (λ l. record n { ops = l }) (append_assoc n.ops ids more)) b.0 s.blocks)
 
-same_fields : (a a' : List OpId) (b b' : List OpNode) (c c' : List RegionEntry) (d d' : List BlockEntry) (e e' : List ValueId)
+same-fields : (a a' : List OpId) (b b' : List OpNode) (c c' : List RegionRow) (d d' : List BlockEntry) (e e' : List ValueId)
     → a ≡ a' → b ≡ b' → c ≡ c' → d ≡ d' → e ≡ e'
     → Path Rows (record { top = a; ops = b; regions = c; blocks = d; types = e }) (record { top = a'; ops = b'; regions = c'; blocks = d'; types = e' })
-same_fields a a' b b' c c' d d' e e' p q r s t = cc
+same-fields a a' b b' c c' d d' e e' p q r s t = cc
 
-same_rows : (s t : Rows) → s.top ≡ t.top → s.ops ≡ t.ops → s.regions ≡ t.regions
+same-rows : (s t : Rows) → s.top ≡ t.top → s.ops ≡ t.ops → s.regions ≡ t.regions
     → s.blocks ≡ t.blocks → s.types ≡ t.types → s ≡ t
-same_rows s t a b c d e = same_fields _ _ _ _ _ _ _ _ _ _ a b c d e
+same-rows s t a b c d e = same-fields _ _ _ _ _ _ _ _ _ _ a b c d e
 
 -- there is still a block
 pub there-later : (s : Rows) (b : Option BlockId) (f : Rows) → length s.blocks ≤ length f.blocks
@@ -258,7 +258,7 @@ mutual
   pub grow-ops : (os : Module) (s : Rows) (b : Option BlockId) (c : Numbers) → numbers_of s ≡ c
       → IsThere s b → with_ops s b os ≡ grown_ops s b c os
   grow-ops no_ops s b c e h =
-      same_rows s (grown_ops s b c no_ops) (sym (top-none b s.top)) (sym (append-nil s.ops)) (sym (append-nil s.regions))
+      same-rows s (grown_ops s b c no_ops) (sym (top-none b s.top)) (sym (append-nil s.ops)) (sym (append-nil s.regions))
       (sym (append-nil _ ∙ blocks-none b s.blocks)) (sym (append-nil s.types))
   grow-ops (then_op head rs os) s b c e h =
       let o = op_id (length s.ops) in
@@ -280,10 +280,10 @@ mutual
       let last : changed (λ n. record n { regions = n.regions ++ region_ids d rs }) (length s.ops) t.ops
       ≡ s.ops ++ op_node (record { at = c; head = head; regions = rs }) ∷ [] =
       changed-last _ s.ops _ ∙ ap (λ n. s.ops ++ (record { head = head; first = n; regions = region_ids d rs }) ∷ []) (ap (λ c. c.values) e) in
-      let join_ops = op_nodes-append (parts_of_regions d rs) (parts f os) in
-      let join_regions = region_nodes-append (parts_of_regions d rs) (parts f os) in
-      let join_blocks = block_nodes-append (parts_of_regions d rs) (parts f os) in
-      rest ∙ whole ∙ same_rows (grown_ops (grown_regions t o d rs) b f os) (grown_ops s b c (then_op head rs os))
+      let join_ops = op-nodes-append (parts_of_regions d rs) (parts f os) in
+      let join_regions = region-nodes-append (parts_of_regions d rs) (parts f os) in
+      let join_blocks = block-nodes-append (parts_of_regions d rs) (parts f os) in
+      rest ∙ whole ∙ same-rows (grown_ops (grown_regions t o d rs) b f os) (grown_ops s b c (then_op head rs os))
       (top-more b (o ∷ []) (op_ids f os) s.top ∙ ap (λ i. top_with b (i ∷ op_ids f os) s.top) place)
       (rw (last, join_ops) (simp append_assoc))
       (rw join_regions (simp append_assoc))
@@ -293,7 +293,7 @@ mutual
   pub grow-regions : (rs : Rs) (s : Rows) (o : OpId) (c : Numbers) → numbers_of s ≡ c
       → o.0 < length s.ops → with_regions s o rs ≡ grown_regions s o c rs
   grow-regions no_regions s o c e h =
-      same_rows s (grown_regions s o c no_regions) refl
+      same-rows s (grown_regions s o c no_regions) refl
       (sym (append-nil _ ∙ changed-none _ (λ n. ap (λ l. record n { regions = l }) (append-nil n.regions)) o.0 s.ops))
       (sym (append-nil s.regions)) (sym (append-nil s.blocks)) (sym (append-nil s.types))
   grow-regions (region bs rs) s o c e h =
@@ -319,10 +319,10 @@ mutual
       changed-append _ o.0 t.ops (op_nodes (parts_of_blocks d bs)) (omega arith)
       ∙ ap (λ l. l ++ op_nodes (parts_of_blocks d bs)) (changed-twice _ _ (λ n. record n { regions = n.regions ++ (r ∷ region_ids f rs) })
       (λ n. ap (λ l. record n { regions = l }) (append_assoc n.regions (r ∷ []) (region_ids f rs))) o.0 s.ops) in
-      let join_ops = op_nodes-append (parts_of_blocks d bs) (parts_of_regions f rs) in
-      let join_regions = region_nodes-append (parts_of_blocks d bs) (parts_of_regions f rs) in
-      let join_blocks = block_nodes-append (parts_of_blocks d bs) (parts_of_regions f rs) in
-      rest ∙ whole ∙ same_rows (grown_regions (grown_blocks t r d bs) o f rs) (grown_regions s o c (region bs rs))
+      let join_ops = op-nodes-append (parts_of_blocks d bs) (parts_of_regions f rs) in
+      let join_regions = region-nodes-append (parts_of_blocks d bs) (parts_of_regions f rs) in
+      let join_blocks = block-nodes-append (parts_of_blocks d bs) (parts_of_regions f rs) in
+      rest ∙ whole ∙ same-rows (grown_regions (grown_blocks t r d bs) o f rs) (grown_regions s o c (region bs rs))
       refl
       (rw (join_ops, ← place, step) (simp append_assoc))
       (rw (last, join_regions) (simp append_assoc))
@@ -332,7 +332,7 @@ mutual
   pub grow-blocks : (bs : Bs) (s : Rows) (r : RegionId) (c : Numbers) → numbers_of s ≡ c
       → r.0 < length s.regions → with_blocks s r bs ≡ grown_blocks s r c bs
   grow-blocks no_blocks s r c e h =
-      same_rows s (grown_blocks s r c no_blocks) refl (sym (append-nil s.ops))
+      same-rows s (grown_blocks s r c no_blocks) refl (sym (append-nil s.ops))
       (sym (append-nil _ ∙ changed-none _ (λ n. ap (λ l. record n { blocks = l }) (append-nil n.blocks)) r.0 s.regions))
       (sym (append-nil s.blocks)) (sym (append-nil s.types))
   grow-blocks (block args os bs) s r c e h =
@@ -358,10 +358,10 @@ mutual
       changed-append _ r.0 t.regions (region_nodes (parts d os)) (omega arith)
       ∙ ap (λ l. l ++ region_nodes (parts d os)) (changed-twice _ _ (λ n. record n { blocks = n.blocks ++ (b ∷ block_ids f bs) })
       (λ n. ap (λ l. record n { blocks = l }) (append_assoc n.blocks (b ∷ []) (block_ids f bs))) r.0 s.regions) in
-      let join_ops = op_nodes-append (parts d os) (parts_of_blocks f bs) in
-      let join_regions = region_nodes-append (parts d os) (parts_of_blocks f bs) in
-      let join_blocks = block_nodes-append (parts d os) (parts_of_blocks f bs) in
-      rest ∙ whole ∙ same_rows (grown_blocks (grown_ops t (Some b) d os) r f bs) (grown_blocks s r c (block args os bs))
+      let join_ops = op-nodes-append (parts d os) (parts_of_blocks f bs) in
+      let join_regions = region-nodes-append (parts d os) (parts_of_blocks f bs) in
+      let join_blocks = block-nodes-append (parts d os) (parts_of_blocks f bs) in
+      rest ∙ whole ∙ same-rows (grown_blocks (grown_ops t (Some b) d os) r f bs) (grown_blocks s r c (block args os bs))
       refl
       (rw join_ops (simp append_assoc))
       (rw (join_regions, ← place, step) (simp append_assoc))
@@ -370,4 +370,4 @@ mutual
 
 -- the calls in text order make the rows of the module
 pub rows-made : (m : Module) → with_ops no_rows None m ≡ rows_of m
-rows-made m = grow-ops m no_rows None start refl tt
+rows-made m = grow-ops m no_rows None first_numbers refl tt

@@ -18,13 +18,13 @@ use Rattle.ir_store.specs.Modules.{OpHead, Ops, Regions, Blocks, no_ops, then_op
 use Rattle.ir_store.specs.Modules.{region, no_blocks, block, types_in, types_in_regions}
 use Rattle.ir_store.specs.Modules.{types_in_blocks, block_args, region_args, mapped, mapped_head}
 use Rattle.ir_store.specs.Modules.{mapped_regions, mapped_blocks}
-use Rattle.ir_store.specs.Numbering.{Numbers, start, past_op, past_region, past_block, behind}
+use Rattle.ir_store.specs.Numbering.{Numbers, first_numbers, past_op, past_region, past_block, behind}
 use Rattle.ir_store.specs.Numbering.{behind_regions, behind_blocks, OpSite, RegionSite, BlockSite}
 use Rattle.ir_store.specs.Numbering.{Part, parts, parts_of_regions, parts_of_blocks, op_sites}
 use Rattle.ir_store.specs.Numbering.{ops_in, regions_in, blocks_in}
 use Rattle.ir_store.specs.Named.{op_id, region_id, block_id, op_at, region_at, block_at, AreOps}
 use Rattle.ir_store.specs.Named.{AreRegions, AreBlocks}
-use Rattle.ir_store.proofs.Replay.{op_sites-append}
+use Rattle.ir_store.proofs.Replay.{op-sites-append}
 
 get-some : {X : Type 0} (xs : List X) (i : ℕ) → i < length xs → (x : X) × (slice_get xs i ≡ Some x)
 get-some [] i h = absurd (omega arith)
@@ -195,11 +195,11 @@ module _ {N V M W : Type 0} (f : N → M) (g : V → W) where
         let b = types-mapped_blocks bs in
         rw (a, b, map-append, map-append)
 
-  past_op-mapped : (c : Numbers) (h : OpHead N V) → past_op c (mapped_head f g h) ≡ past_op c h
-  past_op-mapped c h = ap (λ n. record c { ops = c.ops + 1; values = c.values + n }) (length-map h.results g)
+  past-op-mapped : (c : Numbers) (h : OpHead N V) → past_op c (mapped_head f g h) ≡ past_op c h
+  past-op-mapped c h = ap (λ n. record c { ops = c.ops + 1; values = c.values + n }) (length-map h.results g)
 
-  past_block-mapped : (c : Numbers) (args : List V) → past_block c (map g args) ≡ past_block c args
-  past_block-mapped c args = ap (λ n. record c { blocks = c.blocks + 1; values = c.values + n }) (length-map args g)
+  past-block-mapped : (c : Numbers) (args : List V) → past_block c (map g args) ≡ past_block c args
+  past-block-mapped c args = ap (λ n. record c { blocks = c.blocks + 1; values = c.values + n }) (length-map args g)
 
   -- the numbers are the same
   mutual
@@ -207,7 +207,7 @@ module _ {N V M W : Type 0} (f : N → M) (g : V → W) where
     behind-mapped no_ops c = refl
     behind-mapped (then_op h rs os) c =
         behind-mapped os (behind_regions (past_op c (mapped_head f g h)) (mapped_regions f g rs))
-        ∙ ap (λ d. behind d os) (behind-mapped_regions rs (past_op c (mapped_head f g h)) ∙ ap (λ d. behind_regions d rs) (past_op-mapped c h))
+        ∙ ap (λ d. behind d os) (behind-mapped_regions rs (past_op c (mapped_head f g h)) ∙ ap (λ d. behind_regions d rs) (past-op-mapped c h))
 
     pub behind-mapped_regions : (rs : Regions N V) (c : Numbers)
         → behind_regions c (mapped_regions f g rs) ≡ behind_regions c rs
@@ -221,7 +221,7 @@ module _ {N V M W : Type 0} (f : N → M) (g : V → W) where
     behind-mapped_blocks no_blocks c = refl
     behind-mapped_blocks (block args os bs) c =
         behind-mapped_blocks bs (behind (past_block c (map g args)) (mapped f g os))
-        ∙ ap (λ d. behind_blocks d bs) (behind-mapped os (past_block c (map g args)) ∙ ap (λ d. behind d os) (past_block-mapped c args))
+        ∙ ap (λ d. behind_blocks d bs) (behind-mapped os (past_block c (map g args)) ∙ ap (λ d. behind d os) (past-block-mapped c args))
 
   abbrev pub mapped_site : OpSite N V → OpSite M W
   mapped_site x = record { at = x.at; head = mapped_head f g x.head; regions = mapped_regions f g x.regions }
@@ -230,8 +230,8 @@ module _ {N V M W : Type 0} (f : N → M) (g : V → W) where
       → op_sites ps' ≡ map mapped_site (op_sites ps) → op_sites qs' ≡ map mapped_site (op_sites qs)
       → op_sites (ps' ++ qs') ≡ map mapped_site (op_sites (ps ++ qs))
   joined-sites ps' qs' ps qs a b =
-      let l = op_sites-append ps' qs' in
-      let r = ap (map mapped_site) (op_sites-append ps qs) in
+      let l = op-sites-append ps' qs' in
+      let r = ap (map mapped_site) (op-sites-append ps qs) in
       let m = map-append mapped_site (op_sites ps) (op_sites qs) in
       cc
 
@@ -246,7 +246,7 @@ module _ {N V M W : Type 0} (f : N → M) (g : V → W) where
         let h' = mapped_head f g h in
         let rs' = mapped_regions f g rs in
         let os' = mapped f g os in
-        let at_d = past_op-mapped c h in
+        let at_d = past-op-mapped c h in
         let at_e : behind_regions (past_op c h') rs' ≡ e = ap (λ d. behind_regions d rs') at_d ∙ behind-mapped_regions rs d in
         ap (λ l. (record { at = c; head = h'; regions = rs' }) ∷ l)
         (joined-sites (parts_of_regions (past_op c h') rs') (parts (behind_regions (past_op c h') rs') os') (parts_of_regions d rs) (parts e os)
@@ -275,11 +275,11 @@ module _ {N V M W : Type 0} (f : N → M) (g : V → W) where
         let e = behind d os in
         let os' = mapped f g os in
         let bs' = mapped_blocks f g bs in
-        let at_d = past_block-mapped c args in
+        let at_d = past-block-mapped c args in
         let at_e : behind (past_block c (map g args)) os' ≡ e = ap (λ d. behind d os') at_d ∙ behind-mapped os d in
         joined-sites (parts (past_block c (map g args)) os') (parts_of_blocks (behind (past_block c (map g args)) os') bs') (parts d os) (parts_of_blocks e bs)
         (ap (λ d. op_sites (parts d os')) at_d ∙ sites-mapped_from os d)
         (ap (λ e. op_sites (parts_of_blocks e bs')) at_e ∙ sites-mapped_blocks bs e)
 
   pub sites-mapped : (m : Ops N V) → ops_in (mapped f g m) ≡ map mapped_site (ops_in m)
-  sites-mapped m = sites-mapped_from m start
+  sites-mapped m = sites-mapped_from m first_numbers

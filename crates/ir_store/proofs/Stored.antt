@@ -9,13 +9,13 @@ use Rattle.ir_store.specs.declared.rows.OpId.{OpId}
 use Rattle.ir_store.specs.declared.rows.RegionId.{RegionId}
 use Rattle.ir_store.specs.declared.rows.BlockId.{BlockId}
 use Rattle.ir_store.specs.Modules.{types_in}
-use Rattle.ir_store.specs.Numbering.{start, behind, past_op, past_region, past_block}
+use Rattle.ir_store.specs.Numbering.{first_numbers, behind, past_op, past_region, past_block}
 use Rattle.ir_store.specs.Named.{op_id, region_id, block_id, op_at, region_at, block_at, HaveTypes}
 use Rattle.ir_store.specs.Named.{AttrsAreRight, AreOps, AreRegions, AreBlocks}
-use Rattle.ir_store.specs.Growth.{Place, in_block, in_op, in_region, to_block, to_op, to_region}
+use Rattle.ir_store.specs.Growth.{Parent, in_block, in_op, in_region, to_block, to_op, to_region}
 use Rattle.ir_store.specs.Growth.{open_in, IsOpen, Opens, parent_of, added, one_op, one_region}
 use Rattle.ir_store.specs.Growth.{one_block}
-use Rattle.ir_store.specs.Store.{Head, Module}
+use Rattle.ir_store.specs.Store.{StoredHead, Module}
 use Rattle.ir_store.specs.Rows.{OpNode, Rows, rows_of, op_node, region_node, block_node, changed}
 use Rattle.ir_store.specs.Rows.{with_op, with_region, with_block, regions_at, blocks_at, ops_at}
 use Rattle.ir_store.specs.Rows.{args_at, first_at}
@@ -31,8 +31,8 @@ pub stored : (s : Rows) (m : Module) → IsSound s → module_of s ≡ m → s �
 stored s m sound is = sound.made ∙ ap rows_of is
 
 pub stored-top : (s : Rows) (m : Module) → s ≡ rows_of m → (ids : List OpId) → ids ≡ s.top
-    → AreOps m start ids m
-stored-top s m is ids same = subst (λ ids. AreOps m start ids m) (sym (same ∙ ap (λ s. s.top) is)) (are-ops m m start (inside-all m))
+    → AreOps m first_numbers ids m
+stored-top s m is ids same = subst (λ ids. AreOps m first_numbers ids m) (sym (same ∙ ap (λ s. s.top) is)) (are-ops m m first_numbers (inside-all m))
 
 pub stored-regions : (s : Rows) (m : Module) → s ≡ rows_of m → (op : OpId) (ids : List RegionId)
     → regions_at s op.0 ≡ Some ids
@@ -68,9 +68,9 @@ stored-first s m is op n found = λ x e.
     let here : first_at s op.0 ≡ Some (op_node x).first = ap (option_map (λ n. n.first)) row in
     cc
 
-pub stored-args_at : (s : Rows) (m : Module) → s ≡ rows_of m → (block : BlockId) (p : ℕ × ℕ)
+pub stored-args-at : (s : Rows) (m : Module) → s ≡ rows_of m → (block : BlockId) (p : ℕ × ℕ)
     → args_at s block.0 ≡ Some p → ForSome (block_at m block) (λ x. p.0 ≡ x.at.values)
-stored-args_at s m is block p found = λ x e.
+stored-args-at s m is block p found = λ x e.
     let row : slice_get s.blocks block.0 ≡ Some (block_node x) = ap (λ s. slice_get s.blocks block.0) is ∙ block-row m block x e in
     let here : args_at s block.0 ≡ Some ((block_node x).first, (block_node x).count) = ap (option_map (λ n. (n.first, n.count))) row in
     let same : Path (Option (ℕ × ℕ)) (Some p) (Some ((block_node x).first, (block_node x).count)) = cc in
@@ -106,21 +106,21 @@ if-ok (Err e) P I Q a i f = tt
 pub block-within : (s : Rows) (m : Module) (b : Option BlockId) → s ≡ rows_of m
     → IsOpen m (in_block b) → ForSome b (λ b. b.0 < length s.blocks)
 block-within s m b is is_open = λ x e.
-    let below : x.0 < (behind start m).blocks = open-below m (in_block (Some x)) (subst (λ b. IsOpen m (in_block b)) e is_open) in
+    let below : x.0 < (behind first_numbers m).blocks = open-below m (in_block (Some x)) (subst (λ b. IsOpen m (in_block b)) e is_open) in
     let many = ap (λ c. c.blocks) (ap numbers_of is ∙ numbers-rows m) in
     omega arith
 
 pub op-within : (s : Rows) (m : Module) (o : OpId) → s ≡ rows_of m → IsOpen m (in_op o)
     → o.0 < length s.ops
 op-within s m o is is_open =
-    let below : o.0 < (behind start m).ops = open-below m (in_op o) is_open in
+    let below : o.0 < (behind first_numbers m).ops = open-below m (in_op o) is_open in
     let many = ap (λ c. c.ops) (ap numbers_of is ∙ numbers-rows m) in
     omega arith
 
 pub region-within : (s : Rows) (m : Module) (r : RegionId) → s ≡ rows_of m → IsOpen m (in_region r)
     → r.0 < length s.regions
 region-within s m r is is_open =
-    let below : r.0 < (behind start m).regions = open-below m (in_region r) is_open in
+    let below : r.0 < (behind first_numbers m).regions = open-below m (in_region r) is_open in
     let many = ap (λ c. c.regions) (ap numbers_of is ∙ numbers-rows m) in
     omega arith
 
@@ -157,7 +157,7 @@ right-changed f is [] i all = tt
 right-changed f is (x ∷ ns) zero all = (is x all.0, all.1)
 right-changed f is (x ∷ ns) (suc i) all = (all.0, right-changed f is ns i all.1)
 
-pub sound-op : (s t : Rows) (m : Module) (b : Option BlockId) (h : Head) → IsSound s
+pub sound-op : (s t : Rows) (m : Module) (b : Option BlockId) (h : StoredHead) → IsSound s
     → module_of s ≡ m → IsOpen m (in_block b) → AttrsAreRight h → t ≡ with_op s b h → IsSound t
 sound-op s t m b h sound is is_open right made = record {
   made = made-again s t m (to_block b (one_op h)) (stored s m sound is) is_open made;
@@ -179,8 +179,8 @@ sound-block s t m r args sound is is_open made = record {
 }
 
 -- what is open when one part was put into another
-pub opens-one : (m new : Module) (a : Adding) (q : Place) → new ≡ added m a → IsOpen m (parent_of a)
-    → HasPart a → opened a (behind start m) ≡ q ∷ []
+pub opens-one : (m new : Module) (a : Adding) (q : Parent) → new ≡ added m a → IsOpen m (parent_of a)
+    → HasPart a → opened a (behind first_numbers m) ≡ q ∷ []
     → Opens m new (parent_of a) q
 opens-one m new a q is is_open has one =
     let g = open-added m a is_open.among in
@@ -191,19 +191,19 @@ opens-one m new a q is is_open has one =
       is = ap open_in is ∙ g.is ∙ ap (λ l. g.round ++ parent_of a ∷ l) (g.fresh has ∙ one);
     }
 
-pub opens-op : (s : Rows) (m new : Module) (b : Option BlockId) (h : Head) (id : OpId)
+pub opens-op : (s : Rows) (m new : Module) (b : Option BlockId) (h : StoredHead) (id : OpId)
     → s ≡ rows_of m → new ≡ added m (to_block b (one_op h)) → IsOpen m (in_block b)
     → id.0 ≡ length s.ops
     → Opens m new (in_block b) (in_op id)
 opens-op s m new b h id is made is_open count =
-    let many : (behind start m).ops ≡ id.0 = sym (ap (λ c. c.ops) (ap numbers_of is ∙ numbers-rows m)) ∙ sym count in
+    let many : (behind first_numbers m).ops ≡ id.0 = sym (ap (λ c. c.ops) (ap numbers_of is ∙ numbers-rows m)) ∙ sym count in
     opens-one m new (to_block b (one_op h)) (in_op id) made is_open tt (ap (λ n. in_op (op_id n) ∷ []) many)
 
 pub opens-region : (s : Rows) (m new : Module) (o : OpId) (id : RegionId) → s ≡ rows_of m
     → new ≡ added m (to_op o one_region) → IsOpen m (in_op o) → id.0 ≡ length s.regions
     → Opens m new (in_op o) (in_region id)
 opens-region s m new o id is made is_open count =
-    let many : (behind start m).regions ≡ id.0 = sym (ap (λ c. c.regions) (ap numbers_of is ∙ numbers-rows m)) ∙ sym count in
+    let many : (behind first_numbers m).regions ≡ id.0 = sym (ap (λ c. c.regions) (ap numbers_of is ∙ numbers-rows m)) ∙ sym count in
     opens-one m new (to_op o one_region) (in_region id) made is_open tt (ap (λ n. in_region (region_id n) ∷ []) many)
 
 pub opens-block : (s : Rows) (m new : Module) (r : RegionId) (args : List ValueId) (id : BlockId)
@@ -211,5 +211,5 @@ pub opens-block : (s : Rows) (m new : Module) (r : RegionId) (args : List ValueI
     → id.0 ≡ length s.blocks
     → Opens m new (in_region r) (in_block (Some id))
 opens-block s m new r args id is made is_open count =
-    let many : (behind start m).blocks ≡ id.0 = sym (ap (λ c. c.blocks) (ap numbers_of is ∙ numbers-rows m)) ∙ sym count in
+    let many : (behind first_numbers m).blocks ≡ id.0 = sym (ap (λ c. c.blocks) (ap numbers_of is ∙ numbers-rows m)) ∙ sym count in
     opens-one m new (to_region r (one_block args)) (in_block (Some id)) made is_open tt (ap (λ n. in_block (Some (block_id n)) ∷ []) many)

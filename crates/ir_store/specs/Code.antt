@@ -7,7 +7,7 @@ use Rattle.std.specs.Coded.{Coded, code_by, coded×, coded⊎, coded_ℕ, coded_
 use Rattle.attr_value.specs.declared.head.ValueId.{ValueId}
 use Rattle.ir_store.specs.Modules.{Regions, Blocks}
 use Rattle.ir_store.specs.Modules.{no_ops, then_op, no_regions, region, no_blocks, block}
-use Rattle.ir_store.specs.Store.{OpName, Head, Module}
+use Rattle.ir_store.specs.Store.{OpName, StoredHead, Module}
 
 -- ---- heads
 
@@ -24,7 +24,7 @@ Attrs = List (List ℕ) × List ValueId
 abbrev pub HeadParts : Type 0
 HeadParts = OpName × (List ℕ × (List ValueId × (List ℕ × Attrs)))
 
-abbrev pub head_code : Coded Head
+abbrev pub head_code : Coded StoredHead
 head_code = code_by HeadParts
     (coded× name_code (coded× (coded_list coded_ℕ) (coded× (coded_list id_code)
     (coded× (coded_list coded_ℕ) (coded× (coded_list (coded_list coded_ℕ)) (coded_list id_code))))))
@@ -44,7 +44,7 @@ head_code = code_by HeadParts
 -- a constructor: an operation, a block by the types of its arguments, or one of the others by a
 -- number
 abbrev pub Word : Type 0
-Word = Head ⊎ (List ValueId ⊎ ℕ)
+Word = StoredHead ⊎ (List ValueId ⊎ ℕ)
 
 abbrev pub word_code : Coded Word
 word_code = coded⊎ head_code (coded⊎ (coded_list id_code) coded_ℕ)
@@ -105,43 +105,43 @@ taken (inr (inr (suc (suc zero)))) h = record {
 }
 taken (inr (inr (suc (suc (suc _))))) h = record h { blocks = no_blocks ∷ h.blocks }
 
-abbrev pub read : List Word → Heap
-read [] = record { ops = []; regions = []; blocks = [] }
-read (w ∷ ws) = taken w (read ws)
+abbrev pub decoded : List Word → Heap
+decoded [] = record { ops = []; regions = []; blocks = [] }
+decoded (w ∷ ws) = taken w (decoded ws)
 
 mutual
   pub read-ops : (os : Module) (ws : List Word)
-      → read (written_ops os ++ ws) ≡ record (read ws) { ops = os ∷ (read ws).ops }
+      → decoded (written_ops os ++ ws) ≡ record (decoded ws) { ops = os ∷ (decoded ws).ops }
   read-ops no_ops ws = refl
   read-ops (then_op head rs os) ws =
-      ap (λ l. taken (inl head) (read l)) (append_assoc (written_regions rs) (written_ops os) ws)
+      ap (λ l. taken (inl head) (decoded l)) (append_assoc (written_regions rs) (written_ops os) ws)
       ∙ ap (taken (inl head)) (read-regions rs (written_ops os ++ ws))
       ∙ ap (λ h. taken (inl head) (record h { regions = rs ∷ h.regions })) (read-ops os ws)
 
   pub read-regions : (rs : Regions OpName ValueId) (ws : List Word)
-      → read (written_regions rs ++ ws) ≡ record (read ws) { regions = rs ∷ (read ws).regions }
+      → decoded (written_regions rs ++ ws) ≡ record (decoded ws) { regions = rs ∷ (decoded ws).regions }
   read-regions no_regions ws = refl
   read-regions (region bs rs) ws =
-      ap (λ l. taken (inr (inr 2)) (read l))
+      ap (λ l. taken (inr (inr 2)) (decoded l))
       (append_assoc (written_blocks bs) (written_regions rs) ws)
       ∙ ap (taken (inr (inr 2))) (read-blocks bs (written_regions rs ++ ws))
       ∙ ap (λ h. taken (inr (inr 2)) (record h { blocks = bs ∷ h.blocks })) (read-regions rs ws)
 
   pub read-blocks : (bs : Blocks OpName ValueId) (ws : List Word)
-      → read (written_blocks bs ++ ws) ≡ record (read ws) { blocks = bs ∷ (read ws).blocks }
+      → decoded (written_blocks bs ++ ws) ≡ record (decoded ws) { blocks = bs ∷ (decoded ws).blocks }
   read-blocks no_blocks ws = refl
   read-blocks (block args os bs) ws =
-      ap (λ l. taken (inr (inl args)) (read l))
+      ap (λ l. taken (inr (inl args)) (decoded l))
       (append_assoc (written_ops os) (written_blocks bs) ws)
       ∙ ap (taken (inr (inl args))) (read-ops os (written_blocks bs ++ ws))
       ∙ ap (λ h. taken (inr (inl args)) (record h { ops = os ∷ h.ops })) (read-blocks bs ws)
 
-pub read-module : (m : Module) → first_op (read (written_ops m)).ops ≡ m
+pub read-module : (m : Module) → first_op (decoded (written_ops m)).ops ≡ m
 read-module m =
-    ap (λ l. first_op (read l).ops) (sym (append-nil (written_ops m)))
+    ap (λ l. first_op (decoded l).ops) (sym (append-nil (written_ops m)))
     ∙ ap (λ h. first_op h.ops) (read-ops m [])
 
 -- a module as its constructors
 abbrev pub module_code : Coded Module
 module_code = code_by (List Word) (coded_list word_code) written_ops
-    (λ ws. first_op (read ws).ops) read-module
+    (λ ws. first_op (decoded ws).ops) read-module

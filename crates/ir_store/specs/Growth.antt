@@ -1,6 +1,6 @@
 -- What may be added to a module, and which module stands then.
 --
---   Place             what operations, regions or blocks stand in: the top level or a block, an
+--   Parent             what operations, regions or blocks stand in: the top level or a block, an
 --                     operation, a region
 --   open_in m         the open places of a module, from the top level inwards
 --   IsOpen m p        the place p is open
@@ -16,18 +16,18 @@ use Rattle.ir_store.specs.declared.rows.BlockId.{BlockId}
 use Rattle.ir_store.specs.Modules.{OpHead, Ops, Regions, Blocks}
 use Rattle.ir_store.specs.Modules.{no_ops, then_op, no_regions, region, no_blocks, block}
 use Rattle.ir_store.specs.Modules.{joined_ops, joined_regions, joined_blocks}
-use Rattle.ir_store.specs.Numbering.{Numbers, start, past_op, past_region, past_block}
+use Rattle.ir_store.specs.Numbering.{Numbers, first_numbers, past_op, past_region, past_block}
 use Rattle.ir_store.specs.Numbering.{behind, behind_regions, behind_blocks}
 use Rattle.ir_store.specs.Named.{op_id, region_id, block_id}
 
 -- what others stand in: the top level or a block, an operation, a region
-pub data Place : Type 0 where
-  in_block : Option BlockId → Place
-  in_op : OpId → Place
-  in_region : RegionId → Place
+pub data Parent : Type 0 where
+  in_block : Option BlockId → Parent
+  in_op : OpId → Parent
+  in_region : RegionId → Parent
 
 -- the place is in the list
-abbrev pub IsOneOf : Place → List Place → Type 0
+abbrev pub IsOneOf : Parent → List Parent → Type 0
 IsOneOf p [] = ⊥
 IsOneOf p (q ∷ qs) = (p ≡ q) ⊎ IsOneOf p qs
 
@@ -42,21 +42,21 @@ module _ {N V : Type 0} where
   -- What is open among operations that begin at c: the last one; of its regions the last one; of
   -- that region's blocks the last one; and what is open among the operations of that block.
   abbrev mutual
-    pub open_ops : Numbers → Ops N V → List Place
+    pub open_ops : Numbers → Ops N V → List Parent
     open_ops c no_ops = []
     open_ops c (then_op head regions no_ops) =
         in_op (op_id c.ops) ∷ open_regions (past_op c head) regions
     open_ops c (then_op head regions (then_op next more os)) =
         open_ops (behind_regions (past_op c head) regions) (then_op next more os)
 
-    pub open_regions : Numbers → Regions N V → List Place
+    pub open_regions : Numbers → Regions N V → List Parent
     open_regions c no_regions = []
     open_regions c (region blocks no_regions) =
         in_region (region_id c.regions) ∷ open_blocks (past_region c) blocks
     open_regions c (region blocks (region next rs)) =
         open_regions (behind_blocks (past_region c) blocks) (region next rs)
 
-    pub open_blocks : Numbers → Blocks N V → List Place
+    pub open_blocks : Numbers → Blocks N V → List Parent
     open_blocks c no_blocks = []
     open_blocks c (block args ops no_blocks) =
         in_block (Some (block_id c.blocks)) ∷ open_ops (past_block c args) ops
@@ -66,14 +66,14 @@ module _ {N V : Type 0} where
   -- The top level is always open. An operation is open where it is the last at top level or the
   -- last of an open block, a region where it is the last of an open operation, and a block where
   -- it is the last of an open region.
-  abbrev pub open_in : Ops N V → List Place
-  open_in m = in_block None ∷ open_ops start m
+  abbrev pub open_in : Ops N V → List Parent
+  open_in m = in_block None ∷ open_ops first_numbers m
 
-  pub record IsOpen (m : Ops N V) (p : Place) : Type 0 where
+  pub record IsOpen (m : Ops N V) (p : Parent) : Type 0 where
     pub among : IsOneOf p (open_in m)
 
   -- where an addition goes: the place must be open
-  abbrev pub parent_of : Addition N V → Place
+  abbrev pub parent_of : Addition N V → Parent
   parent_of (to_block b _) = in_block b
   parent_of (to_op o _) = in_op o
   parent_of (to_region r _) = in_region r
@@ -127,9 +127,9 @@ module _ {N V : Type 0} where
   -- the module with an addition to an open place
   abbrev pub added : Ops N V → Addition N V → Ops N V
   added m (to_block None more) = joined_ops m more
-  added m (to_block (Some b) more) = added_ops (to_block (Some b) more) start m
-  added m (to_op o more) = added_ops (to_op o more) start m
-  added m (to_region r more) = added_ops (to_region r more) start m
+  added m (to_block (Some b) more) = added_ops (to_block (Some b) more) first_numbers m
+  added m (to_op o more) = added_ops (to_op o more) first_numbers m
+  added m (to_region r more) = added_ops (to_region r more) first_numbers m
 
   -- an operation without regions, as a list
   abbrev pub one_op : OpHead N V → Ops N V
@@ -145,8 +145,8 @@ module _ {N V : Type 0} where
 
   -- The child is open now. Its parent and what was open round that stay open, and nothing else
   -- does.
-  pub record Opens (old new : Ops N V) (parent child : Place) : Type 0 where
-    pub round : List Place
-    pub inside : List Place
+  pub record Opens (old new : Ops N V) (parent child : Parent) : Type 0 where
+    pub round : List Parent
+    pub inside : List Parent
     pub was : open_in old ≡ round ++ parent ∷ inside
     pub is : open_in new ≡ round ++ parent ∷ child ∷ []

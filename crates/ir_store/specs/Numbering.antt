@@ -18,8 +18,8 @@ pub record Numbers : Type 0 where
   pub values : ℕ
 
 -- nothing comes before
-abbrev pub start : Numbers
-start = record { ops = 0; regions = 0; blocks = 0; values = 0 }
+abbrev pub first_numbers : Numbers
+first_numbers = record { ops = 0; regions = 0; blocks = 0; values = 0 }
 
 -- behind the head of an operation, which has a number, and so has each of its results
 abbrev pub past_op : {N V : Type 0} → Numbers → OpHead N V → Numbers
@@ -115,12 +115,12 @@ module _ {N V : Type 0} where
 
   -- the operations of a module in text order
   abbrev pub ops_in : Ops N V → List (OpSite N V)
-  ops_in m = op_sites (parts start m)
+  ops_in m = op_sites (parts first_numbers m)
 
   -- the regions of a module in text order
   abbrev pub regions_in : Ops N V → List (RegionSite N V)
-  regions_in m = region_sites (parts start m)
+  regions_in m = region_sites (parts first_numbers m)
 
   -- the blocks of a module in text order
   abbrev pub blocks_in : Ops N V → List (BlockSite N V)
-  blocks_in m = block_sites (parts start m)
+  blocks_in m = block_sites (parts first_numbers m)

@@ -13,20 +13,20 @@ use Rattle.ir_store.specs.declared.rows.OpId.{OpId}
 use Rattle.ir_store.specs.declared.rows.RegionId.{RegionId}
 use Rattle.ir_store.specs.declared.rows.BlockId.{BlockId}
 use Rattle.ir_store.specs.declared.tables.OpEntry.{OpEntry}
-use Rattle.ir_store.specs.declared.tables.RegionEntry.{RegionEntry}
+use Rattle.ir_store.specs.declared.tables.RegionRow.{RegionRow}
 use Rattle.ir_store.specs.declared.tables.BlockEntry.{BlockEntry}
 use Rattle.ir_store.specs.Modules.{Regions, Blocks, types_in}
 use Rattle.ir_store.specs.Modules.{no_ops, then_op, no_regions, region, no_blocks, block}
-use Rattle.ir_store.specs.Numbering.{Numbers, start, past_op, past_region, past_block}
+use Rattle.ir_store.specs.Numbering.{Numbers, first_numbers, past_op, past_region, past_block}
 use Rattle.ir_store.specs.Numbering.{behind, behind_regions, behind_blocks}
 use Rattle.ir_store.specs.Numbering.{OpSite, RegionSite, BlockSite, Part, parts}
 use Rattle.ir_store.specs.Numbering.{op_sites, region_sites, block_sites}
 use Rattle.ir_store.specs.Named.{op_id, region_id, block_id}
-use Rattle.ir_store.specs.Store.{OpName, Head, Module, head_of}
+use Rattle.ir_store.specs.Store.{OpName, StoredHead, Module, head_of}
 
 -- a row of the table of operations: the operation, the number of its first result, its regions
 pub record OpNode : Type 0 where
-  pub head : Head
+  pub head : StoredHead
   pub first : ℕ
   pub regions : List RegionId
 
@@ -38,7 +38,7 @@ node_of e = record { head = head_of e.row; first = e.first; regions = e.regions 
 pub record Rows : Type 0 where
   pub top : List OpId
   pub ops : List OpNode
-  pub regions : List RegionEntry
+  pub regions : List RegionRow
   pub blocks : List BlockEntry
   pub types : List ValueId
 
@@ -71,7 +71,7 @@ op_node x = record {
   regions = region_ids (past_op x.at x.head) x.regions;
 }
 
-abbrev pub region_node : RegionSite OpName ValueId → RegionEntry
+abbrev pub region_node : RegionSite OpName ValueId → RegionRow
 region_node x = record { blocks = block_ids (past_region x.at) x.blocks }
 
 abbrev pub block_node : BlockSite OpName ValueId → BlockEntry
@@ -85,7 +85,7 @@ block_node x = record {
 abbrev pub op_nodes : List (Part OpName ValueId) → List OpNode
 op_nodes ps = map op_node (op_sites ps)
 
-abbrev pub region_nodes : List (Part OpName ValueId) → List RegionEntry
+abbrev pub region_nodes : List (Part OpName ValueId) → List RegionRow
 region_nodes ps = map region_node (region_sites ps)
 
 abbrev pub block_nodes : List (Part OpName ValueId) → List BlockEntry
@@ -93,10 +93,10 @@ block_nodes ps = map block_node (block_sites ps)
 
 abbrev pub rows_of : Module → Rows
 rows_of m = record {
-  top = op_ids start m;
-  ops = op_nodes (parts start m);
-  regions = region_nodes (parts start m);
-  blocks = block_nodes (parts start m);
+  top = op_ids first_numbers m;
+  ops = op_nodes (parts first_numbers m);
+  regions = region_nodes (parts first_numbers m);
+  blocks = block_nodes (parts first_numbers m);
   types = types_in m;
 }
 
@@ -119,7 +119,7 @@ blocks_with None ids blocks = blocks
 blocks_with (Some b) ids blocks = changed (λ n. record n { ops = n.ops ++ ids }) b.0 blocks
 
 -- an operation last in a block, or last at top level
-abbrev pub with_op : Rows → Option BlockId → Head → Rows
+abbrev pub with_op : Rows → Option BlockId → StoredHead → Rows
 with_op s b head = record s {
   top = top_with b (op_id (length s.ops) ∷ []) s.top;
   ops = s.ops ++ (record { head = head; first = length s.types; regions = [] }) ∷ [];
@@ -148,7 +148,7 @@ with_block s r args = record s {
 -- ---- what stands at a place
 
 -- of the operation of an id: the head, the number of its first result, its regions
-abbrev pub head_at : Rows → ℕ → Option Head
+abbrev pub head_at : Rows → ℕ → Option StoredHead
 head_at s i = option_map (λ n. n.head) (slice_get s.ops i)
 
 abbrev pub first_at : Rows → ℕ → Option ℕ

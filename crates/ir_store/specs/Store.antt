@@ -14,15 +14,15 @@ pub record OpName : Type 0 where
   pub place : ℕ
 
 -- an operation of a store, without its regions
-abbrev pub Head : Type 0
-Head = OpHead OpName ValueId
+abbrev pub StoredHead : Type 0
+StoredHead = OpHead OpName ValueId
 
 -- a module of a store
 abbrev pub Module : Type 0
 Module = Ops OpName ValueId
 
 -- the operation that a row says
-abbrev pub head_of : OpRow → Head
+abbrev pub head_of : OpRow → StoredHead
 head_of row = record {
   name = record { def = row.def; place = row.place };
   operands = row.operands.items;

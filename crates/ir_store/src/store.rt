@@ -3,7 +3,7 @@
 ghost use Rattle.std.specs.Prelude.{◌≡◌, ◌<◌, ◌++◌, length, slice_get, IfOk, OnOk, OnErr};
 ghost use Rattle.std.specs.Option.{ForSome};
 ghost use Rattle.ir_store.specs.Modules.{no_ops, types_in};
-ghost use Rattle.ir_store.specs.Numbering.{start, past_op, past_region, past_block};
+ghost use Rattle.ir_store.specs.Numbering.{first_numbers, past_op, past_region, past_block};
 ghost use Rattle.ir_store.specs.Numbering.{ops_in, regions_in, blocks_in};
 ghost use Rattle.ir_store.specs.Named.{op_at, region_at, block_at, HaveTypes, AttrsAreRight};
 ghost use Rattle.ir_store.specs.Named.{AreOps, AreRegions, AreBlocks};
@@ -77,7 +77,7 @@ impl Store {
 
     /// The operations at top level. It takes no memory.
     pub fn top(&self) -> &[OpId]
-        ensures { AreOps self.now start result.now self.now }
+        ensures { AreOps self.now first_numbers result.now self.now }
     {
         self.tables.top()
     }

@@ -22,7 +22,7 @@ struct OpEntry {
 
 /// The blocks of a region.
 #[derive(Drop)]
-struct RegionEntry {
+struct RegionRow {
     blocks: List<BlockId>,
 }
 
@@ -39,7 +39,7 @@ struct BlockEntry {
 pub(crate) struct Tables {
     top: List<OpId>,
     ops: Vec<OpEntry>,
-    regions: Vec<RegionEntry>,
+    regions: Vec<RegionRow>,
     blocks: Vec<BlockEntry>,
     types: Vec<ValueId>,
     alloc: Global,
@@ -184,7 +184,7 @@ impl Tables {
         self.regions.reserve(1)?;
         let entry = &mut self.ops[op.0];
         entry.regions.push(id)?;
-        self.regions.push_reserved(RegionEntry {
+        self.regions.push_reserved(RegionRow {
             blocks: List::new(self.alloc),
         });
         Ok(id)

@@ -19,11 +19,11 @@ Reading None name read file = ⊤
 Reading (Some files) name read file = Front files name read file
 
 -- nothing is read of a file that was opened
-pub reading_start : (told : Option FileMap) (name : List ℕ) (file : Option OpenFile) →
+pub reading-start : (told : Option FileMap) (name : List ℕ) (file : Option OpenFile) →
     IfSome told (λ files. IsSome (files name)) → IfSome told (λ _. file ≡ Some (first_byte name)) →
     Reading told name [] file
-reading_start None name file has first = tt
-reading_start (Some files) name file has first = started (files name) refl has
+reading-start None name file has first = tt
+reading-start (Some files) name file has first = started (files name) refl has
   where
     started : (bytes : Option (List ℕ)) → files name ≡ bytes → IsSome bytes →
         Front files name [] file
@@ -31,17 +31,17 @@ reading_start (Some files) name file has first = started (files name) refl has
     started (Some bytes) is some = record { rest = bytes; has = is; file_is = first }
 
 -- no file is open, so none was read
-none_open : (files : FileMap) (name read : List ℕ) → ¬ Front files name read None
-none_open files name read reading =
+none-open : (files : FileMap) (name read : List ℕ) → ¬ Front files name read None
+none-open files name read reading =
     let open_file : OpenFile = record { name = name; place = length read } in
     let closed : None ≡ Some open_file = reading.file_is in
     cc
 
 -- a read moves its bytes from those to come to those read
-read_next : (files : FileMap) (name read : List ℕ) (file : OpenFile) (new : Option OpenFile)
+read-next : (files : FileMap) (name read : List ℕ) (file : OpenFile) (new : Option OpenFile)
     (n : ℕ) (into : List ℕ) → Front files name read (Some file) → n ≤ length into →
     ReadsNext files file new n into → Front files name (read ++ take n into) new
-read_next files name read file new n into reading fits next =
+read-next files name read file new n into reading fits next =
     let file_is : file ≡ record { name = name; place = length read } = cc in
     let bytes_are : next.bytes ≡ read ++ reading.rest = cc in
     let taken : take n into ≡ take n reading.rest =
@@ -53,13 +53,13 @@ read_next files name read file new n into reading fits next =
     }
 
 -- the same, where the map is told and a file is open
-pub reading_more : (told : Option FileMap) (name read : List ℕ) (old new : Option OpenFile)
+pub reading-more : (told : Option FileMap) (name read : List ℕ) (old new : Option OpenFile)
     (n : ℕ) (into : List ℕ) → Reading told name read old → n ≤ length into →
     ReadsTold told old new n into → Reading told name (read ++ take n into) new
-reading_more None name read old new n into reading fits next = tt
-reading_more (Some files) name read None new n into reading fits next =
-    absurd (none_open files name read reading)
-reading_more (Some files) name read (Some file) new n into reading fits next =
-    read_next files name read file new n into reading fits next
+reading-more None name read old new n into reading fits next = tt
+reading-more (Some files) name read None new n into reading fits next =
+    absurd (none-open files name read reading)
+reading-more (Some files) name read (Some file) new n into reading fits next =
+    read-next files name read file new n into reading fits next
 
-pub ruleset reading = (reading_start, reading_more)
+pub ruleset reading = (reading-start, reading-more)

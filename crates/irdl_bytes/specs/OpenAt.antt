@@ -1,7 +1,7 @@
 -- The open file of files in memory as the code keeps it: its index among them and its place.
 --
 --   name_at files at      the name of the file at an index
---   IsFirst files at      the file there is the first of its name
+--   IsFirstNamed files at      the file there is the first of its name
 --   SameFirst old new at  a file that is the first of its name in both of two lists
 --   opened files cursor   the open file of a cursor, if there is one
 --   moved_by count        a cursor that many bytes further
@@ -19,12 +19,12 @@ abbrev pub name_at : List MemFile → ℕ → List ℕ
 name_at files at = unwrap_or (option_map (λ file. file.name) (slice_get files at)) []
 
 -- the file at an index is the first of its name
-abbrev pub IsFirst : List MemFile → ℕ → Type 0
-IsFirst files at = position (is_named (name_at files at)) files ≡ Some at
+abbrev pub IsFirstNamed : List MemFile → ℕ → Type 0
+IsFirstNamed files at = position (is_named (name_at files at)) files ≡ Some at
 
 -- an index has the first file of its name in two lists, and that name is the same
 pub record SameFirst (old new : List MemFile) (at : ℕ) : Type 0 where
-  pub first : IsFirst new at
+  pub first : IsFirstNamed new at
   pub name_is : name_at new at ≡ name_at old at
 
 -- the open file of a cursor, if there is one

@@ -5,7 +5,7 @@
 ghost use Rattle.std.specs.Prelude.{◌≡◌, ◌≢◌, ◌≤◌, ◌+◌, ◌∷◌, ◌++◌, ◌<◌, ℕ, List, [], Some, None, min, take, drop, length, position, is_err, is_some, IsTrue, IsSome, IfOk, IfSome, OnOk, OnErr, IsOk};
 ghost use Rattle.std.specs.Option.{option_map};
 ghost use Rattle.irdl_bytes.specs.MemFiles.{is_named, map_of, rest_of, open_fails, after_open, read_fails, after_read};
-ghost use Rattle.irdl_bytes.specs.OpenAt.{opened, moved_by, name_at, IsFirst, SameFirst};
+ghost use Rattle.irdl_bytes.specs.OpenAt.{opened, moved_by, name_at, IsFirstNamed, SameFirst};
 ghost use Rattle.irdl_bytes.specs.Outside.{Rose, Lacks, ReadsTold, first_byte};
 ghost use Rattle.irdl_bytes.specs.Planned.{none_later};
 
@@ -35,7 +35,7 @@ struct Cursor {
 impl Model for MemFiles {
     ghost use Rattle.std.specs.Prelude.{IfSome};
     ghost use Rattle.irdl_bytes.specs.MemFiles.{FilesState};
-    ghost use Rattle.irdl_bytes.specs.OpenAt.{IsFirst, opened};
+    ghost use Rattle.irdl_bytes.specs.OpenAt.{IsFirstNamed, opened};
 
     ghost Value = { FilesState };
 
@@ -47,7 +47,7 @@ impl Model for MemFiles {
       faults = s.plan.faults;
     } };
 
-    ghost invariant = { λ s. IfSome s.cursor (λ cursor. IsFirst s.files.items cursor.file) };
+    ghost invariant = { λ s. IfSome s.cursor (λ cursor. IsFirstNamed s.files.items cursor.file) };
 }
 
 impl MemFiles {
@@ -102,7 +102,7 @@ fn position_of(files: &[MemFile], name: &[u8]) -> Option<usize>
 // The same, said of the map of names.
 fn index_of(files: &[MemFile], name: &[u8]) -> Option<usize>
     ensures known { is_some result ≡ is_some (map_of files.now name.now) }
-    ensures first { IfSome result (λ at. IsFirst files.now at) }
+    ensures first { IfSome result (λ at. IsFirstNamed files.now at) }
     ensures named { IfSome result (λ at. name_at files.now at ≡ name.now) }
 {
     position_of(files, name)
@@ -118,7 +118,7 @@ fn set_bytes(
     ensures ok { OnOk result (map_of files.new.items name.now ≡ Some bytes.now) }
     ensures others { (other : List ℕ) → other ≢ name.now →
         map_of files.new.items other ≡ map_of files.old.items other }
-    ensures firsts { (at : ℕ) → IsFirst files.old.items at →
+    ensures firsts { (at : ℕ) → IsFirstNamed files.old.items at →
         SameFirst files.old.items files.new.items at }
     ensures err { OnErr result (files.new.items ≡ files.old.items) }
 {
@@ -139,7 +139,7 @@ fn set_bytes(
 // answers how many they are.
 fn read_on(files: &[MemFile], cursor: &mut Option<Cursor>, into: &mut [u8]) -> usize
     requires room { 0 < length into.old }
-    requires first { IfSome cursor.old (λ c. IsFirst files.now c.file) }
+    requires first { IfSome cursor.old (λ c. IsFirstNamed files.now c.file) }
     ensures count { result ≡
         min (length into.old) (length (rest_of files.now (opened files.now cursor.old))) }
     ensures front { take result into.new ≡

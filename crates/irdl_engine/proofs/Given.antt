@@ -11,22 +11,22 @@ use Rattle.irdl_engine.specs.declared.status.Status.TheVariants.{OutOfMemory, Wr
 use Rattle.irdl_engine.specs.Answer.{Answer, MayAnswer, usage}
 use Rattle.irdl_engine.specs.Command.{Command}
 use Rattle.irdl_engine.specs.Writes.{Change, change, Says, GivesAll, GivesFronts, MayGive}
-use Rattle.irdl_engine.proofs.Lines.{usage_has}
+use Rattle.irdl_engine.proofs.Lines.{usage-has}
 
 -- a line that stands for another
-pub says_as : (s s' r : Status) (t t' : Text) (e : Change)
+pub says-as : (s s' r : Status) (t t' : Text) (e : Change)
     → Says s t r e → s ≡ s' → t ≡ t' → Says s' t' r e
-says_as s s' r t t' e h p q = rw (← p, ← q) h
+says-as s s' r t t' e h p q = rw (← p, ← q) h
 
 -- a sink that is left alone got nothing
-pub got_nothing : (b : Option Text) → Appends b b []
-got_nothing None = tt
-got_nothing (Some bs) = search rules
+pub got-nothing : (b : Option Text) → Appends b b []
+got-nothing None = tt
+got-nothing (Some bs) = search rules
 
 -- nothing is a front of any text
-got_front_of_all : (b : Option Text) (t : Text) → AppendsPrefix b b t
-got_front_of_all None t = (0, tt)
-got_front_of_all (Some bs) t = (0, search rules)
+got-front-of-all : (b : Option Text) (t : Text) → AppendsPrefix b b t
+got-front-of-all None t = (0, tt)
+got-front-of-all (Some bs) t = (0, search rules)
 
 -- a sink that is left alone keeps its bytes
 pub kept : (b : Option Text) → Keeps b b
@@ -34,48 +34,48 @@ kept None = tt
 kept (Some bs) = refl
 
 -- an answer that has nothing for standard output, of which the line was said
-pub gives_said : (m : FileMap) (failed : Type 0) (command : Option Command) (a : Answer)
+pub gives-said : (m : FileMap) (failed : Type 0) (command : Option Command) (a : Answer)
     (status : Status) (out : Option Text) (err : Change)
     → MayAnswer m failed command a → a.out ≡ [] → (a.err ≡ [] → status ≡ WriteFault → ⊥)
     → Says a.status a.err status err
     → MayGive m failed command status (change out out) err
-gives_said m failed command a status out err may none quiet (inl h) =
+gives-said m failed command a status out err may none quiet (inl h) =
     let all : GivesAll a status (change out out) err =
-    record { status_is = h.0; out_got = rw none (got_nothing out); err_got = h.1 } in
+    record { status_is = h.0; out_got = rw none (got-nothing out); err_got = h.1 } in
     inl (record { answer = a; planned = may; given = inl all })
-gives_said m failed command a status out err may none quiet (inr h) =
+gives-said m failed command a status out err may none quiet (inr h) =
     let has : (a.out ≡ [] → ⊥) ⊎ (a.err ≡ [] → ⊥) = inr (λ e. quiet e h.0) in
-    let got = got_front_of_all out a.out in
+    let got = got-front-of-all out a.out in
     let fronts : GivesFronts a status (change out out) err =
     record { status_is = h.0; has_bytes = has; out_got = got; err_got = h.1 } in
     inl (record { answer = a; planned = may; given = inr fronts })
 
 -- the same, where the files may tell their bytes
-pub said_given : (told : Option FileMap) (failed : Type 0) (command : Option Command) (a : Answer)
+pub said-given : (told : Option FileMap) (failed : Type 0) (command : Option Command) (a : Answer)
     (status : Status) (out : Option Text) (err : Change)
     → IfSome told (λ m. MayAnswer m failed command a) → a.out ≡ []
     → (a.err ≡ [] → status ≡ WriteFault → ⊥) → Says a.status a.err status err
     → IfSome told (λ m. MayGive m failed command status (change out out) err)
-said_given None failed command a status out err may none quiet h = tt
-said_given (Some m) failed command a status out err may none quiet h =
-    gives_said m failed command a status out err may none quiet h
+said-given None failed command a status out err may none quiet h = tt
+said-given (Some m) failed command a status out err may none quiet h =
+    gives-said m failed command a status out err may none quiet h
 
 -- want of memory, where nothing was written
-pub gives_up : (told : Option FileMap) (failed : Type 0) (command : Option Command)
+pub gives-up : (told : Option FileMap) (failed : Type 0) (command : Option Command)
     (out err : Option Text)
     → IfSome told (λ m. MayGive m failed command OutOfMemory (change out out) (change err err))
-gives_up None failed command out err = tt
-gives_up (Some m) failed command out err =
+gives-up None failed command out err = tt
+gives-up (Some m) failed command out err =
     inr (record { status_is = refl; out_kept = kept out; err_kept = kept err })
 
 -- the usage line, where the words are no command
-pub usage_given : (told : Option FileMap) (failed : Type 0) (command : Option Command)
+pub usage-given : (told : Option FileMap) (failed : Type 0) (command : Option Command)
     (status : Status) (out : Option Text) (err : Change)
     → None ≡ command → Says usage.status usage.err status err
     → IfSome told (λ m. MayGive m failed command status (change out out) err)
-usage_given None failed command status out err e h = tt
-usage_given (Some m) failed command status out err e h =
-    gives_said m failed command usage status out err (inl (rw (← e) refl)) refl
-    (λ none _. usage_has none) h
+usage-given None failed command status out err e h = tt
+usage-given (Some m) failed command status out err e h =
+    gives-said m failed command usage status out err (inl (rw (← e) refl)) refl
+    (λ none _. usage-has none) h
 
-pub ruleset giving = (said_given, gives_up, usage_given, kept)
+pub ruleset giving = (said-given, gives-up, usage-given, kept)

@@ -18,7 +18,7 @@ use Rattle.irdl_bytes.specs.declared.whole.ReadError.TheVariants.{InputLimit}
 use Rattle.ir_lexer.specs.Source.{Source}
 use Rattle.ir_lexer.specs.Slice.{Tells}
 use Rattle.ir_lexer.specs.Spelling.{Text}
-use Rattle.ir_lexer.specs.Tokens.{Tokens as AreTokens}
+use Rattle.ir_lexer.specs.Tokens.{AreTokens}
 use Rattle.ir_lexer.proofs.Once.{end_is_last}
 use Rattle.grammar.specs.declared.stop.SyntaxCode.{SyntaxCode}
 use Rattle.grammar.specs.declared.stop.SyntaxStop.{SyntaxStop}
@@ -28,76 +28,76 @@ use Rattle.grammar.specs.Front.{Front}
 use Rattle.grammar.specs.Grammar.{Tokens}
 use Rattle.irdl_ops.specs.declared.raw.RawDefs.{RawDefs}
 use Rattle.irdl_ops.specs.Definitions.{DefText, TooDeepDef}
-use Rattle.irdl_ops.proofs.Files.{file_ends, front_file}
+use Rattle.irdl_ops.proofs.Files.{file-ends, front-file}
 use Rattle.dialect_registry.specs.declared.code.DefCode.{DefCode}
 use Rattle.dialect_registry.specs.declared.code.DefFault.{DefFault}
 use Rattle.dialect_registry.specs.NameFaults.{IsFault, IsFirst}
-use Rattle.irdl_engine.specs.declared.outcome.Outcome.TheVariants.{Accepted, Unreadable, TooLong}
-use Rattle.irdl_engine.specs.declared.outcome.Outcome.TheVariants.{Refused as RefusedFor}
+use Rattle.irdl_engine.specs.declared.outcome.FileOutcome.TheVariants.{Accepted, Unreadable, TooLong}
+use Rattle.irdl_engine.specs.declared.outcome.FileOutcome.TheVariants.{Refused as RefusedFor}
 use Rattle.irdl_engine.specs.declared.outcome.Refusal.{Refusal}
 use Rattle.irdl_engine.specs.Answer.{MayAnswer, read_fault, refused, place_at}
 use Rattle.irdl_engine.specs.Command.{Check}
-use Rattle.irdl_engine.specs.Judged.{Spells, IsDefinition, IsRefusedAt, rule_of}
+use Rattle.irdl_engine.specs.Judged.{SpellsFile, IsDefinition, IsRefusedAt, rule_of}
 use Rattle.irdl_engine.specs.Said.{StandsAt, IsVerdict}
 use Rattle.irdl_engine.specs.Said.{said, Shows}
 
 -- ---- the tokens of a text
 
 -- a front of all tokens of a text that is a file takes all of them
-front_spells : (src : Text) (ts : Tokens) (d : RawDefs) (rest : Tokens)
-    → AreTokens src ts → Front DefText TooDeepDef ts d rest → Spells src d
-front_spells src ts d rest all f =
-    let e = file_ends f.front d f.tree in
+front-spells : (src : Text) (ts : Tokens) (d : RawDefs) (rest : Tokens)
+    → AreTokens src ts → Front DefText TooDeepDef ts d rest → SpellsFile src d
+front-spells src ts d rest all f =
+    let e = file-ends f.front d f.tree in
     let cut : ts ≡ e.0 ++ e.1 ∷ rest =
     f.is ∙ ap (λ w. w ++ rest) e.2 ∙ append_assoc e.0 (e.1 ∷ []) rest in
     let all_cut = subst (λ (w : Tokens). AreTokens src w) cut all in
     let none = end_is_last src 0 e.0 e.1 rest all_cut e.3 in
-    record { tokens = ts; are_tokens = all; is_file = front_file ts d rest f none }
+    record { tokens = ts; are_tokens = all; is_file = front-file ts d rest f none }
 
 module _ (s : Source) (src : Text) (r : Result RawDefs SyntaxStop) (tells : Tells s src)
     (told : Told s (λ ts. Answered DefText TooDeepDef ts r)) where
   -- the answer is right for the text's tokens
-  answer_of : (a : Result RawDefs SyntaxStop) → r ≡ a
+  answer-of : (a : Result RawDefs SyntaxStop) → r ≡ a
       → Answered DefText TooDeepDef (s.now ∷ tells.tokens.0) a
-  answer_of a e =
+  answer-of a e =
       let right = told tells.tokens.0 tells.tokens.1 in
       subst (Answered DefText TooDeepDef (s.now ∷ tells.tokens.0)) e right
 
   -- what is read of a text's tokens is what the text spells
-  pub told_spells : (d : RawDefs) → r ≡ Ok d → Spells src d
-  told_spells d e =
-      let read = answer_of (Ok d) e in
-      front_spells src (s.now ∷ tells.tokens.0) d read.0 tells.tokens.2 read.1
+  pub told-spells : (d : RawDefs) → r ≡ Ok d → SpellsFile src d
+  told-spells d e =
+      let read = answer-of (Ok d) e in
+      front-spells src (s.now ∷ tells.tokens.0) d read.0 tells.tokens.2 read.1
 
   -- what is refused of the tokens is refused of the text
-  pub told_refused : (place : ℕ) (code : SyntaxCode) (rule : DefCode)
+  pub told-refused : (place : ℕ) (code : SyntaxCode) (rule : DefCode)
       → r ≡ Err (At place code) → rule ≡ rule_of code → IsRefusedAt src place rule
-  told_refused place code rule e is = inl (record {
+  told-refused place code rule e is = inl (record {
     tokens = s.now ∷ tells.tokens.0;
     are_tokens = tells.tokens.2;
     syntax = code;
-    refusal = answer_of (Err (At place code)) e;
+    refusal = answer-of (Err (At place code)) e;
     rule = is;
   })
 
 -- what is judged of a text that spells a file is judged of the text
-pub judged_as : (src : Text) (d : RawDefs) (r : Result (Option Refusal) AllocError)
-    → IfOk r (λ verdict. Spells src d → IsVerdict src verdict) → Spells src d
+pub judged-as : (src : Text) (d : RawDefs) (r : Result (Option Refusal) AllocError)
+    → IfOk r (λ verdict. SpellsFile src d → IsVerdict src verdict) → SpellsFile src d
     → IfOk r (λ verdict. IsVerdict src verdict)
-judged_as src d (Ok verdict) h spells = h spells
-judged_as src d (Err e) h spells = tt
+judged-as src d (Ok verdict) h spells = h spells
+judged-as src d (Err e) h spells = tt
 
 -- a text whose names have no fault is a definition file
-pub names_pass : (src : Text) (d : RawDefs) (found : Option DefFault)
-    → IsFirst (IsFault d) found → found ≡ None → Spells src d → IsVerdict src None
-names_pass src d found first e spells =
+pub names-pass : (src : Text) (d : RawDefs) (found : Option DefFault)
+    → IsFirst (IsFault d) found → found ≡ None → SpellsFile src d → IsVerdict src None
+names-pass src d found first e spells =
     record { defs = d; spells = spells; faultless = subst (IsFirst (IsFault d)) e first }
 
 -- a text whose names have a fault is refused for the first
-pub names_fail : (src : Text) (d : RawDefs) (found : Option DefFault) (f : DefFault) (r : Refusal)
+pub names-fail : (src : Text) (d : RawDefs) (found : Option DefFault) (f : DefFault) (r : Refusal)
     → IsFirst (IsFault d) found → found ≡ Some f → StandsAt src r f.place → r.code ≡ f.code
-    → Spells src d → IsVerdict src (Some r)
-names_fail src d found f r first e stands rule spells =
+    → SpellsFile src d → IsVerdict src (Some r)
+names-fail src d found f r first e stands rule spells =
     let one : IsFirst (IsFault d) (Some (record { place = f.place; code = r.code })) =
     rw rule (subst (IsFirst (IsFault d)) e first) in
     let refusal : IsRefusedAt src f.place r.code =
@@ -107,19 +107,19 @@ names_fail src d found f r first e stands rule spells =
 -- ---- the answers
 
 -- of an accepted file
-pub accepted_as : (told : Option FileMap) (failed : Type 0) (def : Text) (v : Vec ℕ Global)
+pub accepted-as : (told : Option FileMap) (failed : Type 0) (def : Text) (v : Vec ℕ Global)
     → TellsBytes told def (Ok v) → length v.items ≤ file_limit → IsDefinition v.items
     → IfSome told (λ m. MayAnswer m failed (Some (Check def)) (said def Accepted))
-accepted_as None failed def v h le d = tt
-accepted_as (Some m) failed def v h le d = inl (rw h (inr (le, inl (d, refl))))
+accepted-as None failed def v h le d = tt
+accepted-as (Some m) failed def v h le d = inl (rw h (inr (le, inl (d, refl))))
 
 -- of a refused file
-pub refused_as : (told : Option FileMap) (failed : Type 0) (def : Text) (v : Vec ℕ Global)
+pub refused-as : (told : Option FileMap) (failed : Type 0) (def : Text) (v : Vec ℕ Global)
     (r : Refusal)
     → TellsBytes told def (Ok v) → length v.items ≤ file_limit → Shows v.items r
     → IfSome told (λ m. MayAnswer m failed (Some (Check def)) (said def (RefusedFor r)))
-refused_as None failed def v r h le s = tt
-refused_as (Some m) failed def v r h le s =
+refused-as None failed def v r h le s = tt
+refused-as (Some m) failed def v r h le s =
     let line = s.stands.line in
     let column = s.stands.column in
     let place : r.place ≡ place_at v.items s.at =
@@ -128,30 +128,30 @@ refused_as (Some m) failed def v r h le s =
     inl (rw h (inr (le, inr (s.at, r.code, s.refused, answer))))
 
 -- of a file that is too long
-pub too_long_as : (told : Option FileMap) (failed : Type 0) (def : Text)
+pub too-long-as : (told : Option FileMap) (failed : Type 0) (def : Text)
     → TellsBytes told def (Err InputLimit)
     → IfSome told (λ m. MayAnswer m failed (Some (Check def)) (said def TooLong))
-too_long_as None failed def h = tt
-too_long_as (Some m) failed def h = inl (rw h.1 (inl (h.2, refl)))
+too-long-as None failed def h = tt
+too-long-as (Some m) failed def h = inl (rw h.1 (inl (h.2, refl)))
 
 -- a read fault is what a file gets that the map lacks, and what another may get where reading
 -- failed by itself
-faults_by : (def : Text) (steady : Bool) (before now : ℕ) (m : FileMap) (found : Option Text)
+faults-by : (def : Text) (steady : Bool) (before now : ℕ) (m : FileMap) (found : Option Text)
     → m def ≡ found → (IsTrue steady → m def ≡ None) → Rose before now
     → MayAnswer m (FaultsByItself steady before now) (Some (Check def)) (read_fault def)
-faults_by def steady before now m None e lacks rose = inl (rw e refl)
-faults_by def true before now m (Some src) e lacks rose =
+faults-by def steady before now m None e lacks rose = inl (rw e refl)
+faults-by def true before now m (Some src) e lacks rose =
     let n : m def ≡ None = lacks refl in absurd (cc)
-faults_by def false before now m (Some src) e lacks rose =
+faults-by def false before now m (Some src) e lacks rose =
     inr ((refl, rose), record { name = def; named = (0, omega arith, refl); is = refl })
 
 -- of a file that couldn't be read
-pub unreadable_as : (told : Option FileMap) (def : Text) (steady : Bool) (before now : ℕ)
+pub unreadable-as : (told : Option FileMap) (def : Text) (steady : Bool) (before now : ℕ)
     → (IsTrue steady → Lacks told def) → Rose before now
     → IfSome told (λ m. MayAnswer m (FaultsByItself steady before now)
     (Some (Check def)) (said def Unreadable))
-unreadable_as None def steady before now lacks rose = tt
-unreadable_as (Some m) def steady before now lacks rose =
-    faults_by def steady before now m (m def) refl lacks rose
+unreadable-as None def steady before now lacks rose = tt
+unreadable-as (Some m) def steady before now lacks rose =
+    faults-by def steady before now m (m def) refl lacks rose
 
-pub ruleset judging = (accepted_as, refused_as, too_long_as, unreadable_as)
+pub ruleset judging = (accepted-as, refused-as, too-long-as, unreadable-as)

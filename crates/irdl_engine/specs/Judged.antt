@@ -1,6 +1,6 @@
 -- What the bytes of a definition file are judged to be: a definition file, or refused at a place.
 --
---   Spells src defs             the tokens of src are this definition file, whatever its names
+--   SpellsFile src defs             the tokens of src are this definition file, whatever its names
 --   IsDefinition src            the tokens of src are a definition file whose names keep the rules
 --   IsRefusedAt src place code  at this place src breaks this rule first: its first token that no
 --                               definition file has there, or, where its tokens are a definition
@@ -8,7 +8,7 @@
 use Rattle.std.specs.Prelude.{◌≡◌, ◌⊎◌, ℕ}
 use Rattle.std.specs.declared.option.Option.TheVariants.{Some, None}
 use Rattle.ir_lexer.specs.Spelling.{Text}
-use Rattle.ir_lexer.specs.Tokens.{Tokens as AreTokens}
+use Rattle.ir_lexer.specs.Tokens.{AreTokens}
 use Rattle.grammar.specs.declared.stop.SyntaxCode.{SyntaxCode}
 use Rattle.grammar.specs.declared.stop.SyntaxCode.TheVariants.{Syntax, Float, Bad, Nesting}
 use Rattle.grammar.specs.Answers.{IsRefusal}
@@ -27,7 +27,7 @@ rule_of Bad = code.Syntax
 rule_of Nesting = code.Nesting
 
 -- The tokens of a text, which spell this definition file.
-pub record Spells (src : Text) (defs : RawDefs) : Type 0 where
+pub record SpellsFile (src : Text) (defs : RawDefs) : Type 0 where
   pub tokens : Tokens
   pub are_tokens : AreTokens src tokens
   pub is_file : IsFile tokens defs
@@ -35,7 +35,7 @@ pub record Spells (src : Text) (defs : RawDefs) : Type 0 where
 -- A text that spells a definition file without a fault of names.
 pub record IsDefinition (src : Text) : Type 0 where
   pub defs : RawDefs
-  pub spells : Spells src defs
+  pub spells : SpellsFile src defs
   pub faultless : IsFirst (IsFault defs) None
 
 -- The tokens of a text, the first of them that no definition file has there, and its rule.
@@ -49,7 +49,7 @@ pub record IsSyntaxRefusal (src : Text) (place : ℕ) (code : DefCode) : Type 0 
 -- A text that spells a definition file, and the first fault of its names.
 pub record IsNameRefusal (src : Text) (place : ℕ) (code : DefCode) : Type 0 where
   pub defs : RawDefs
-  pub spells : Spells src defs
+  pub spells : SpellsFile src defs
   pub first : IsFirst (IsFault defs) (Some (record { place = place; code = code }))
 
 abbrev pub IsRefusedAt : Text → ℕ → DefCode → Type 0

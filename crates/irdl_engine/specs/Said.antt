@@ -9,15 +9,15 @@ use Rattle.std.specs.declared.option.Option.{Option}
 use Rattle.std.specs.declared.option.Option.TheVariants.{Some, None}
 use Rattle.ir_lexer.specs.Place.{line_at, column_at}
 use Rattle.ir_lexer.specs.Spelling.{Text}
-use Rattle.irdl_engine.specs.declared.outcome.Outcome.{Outcome}
-use Rattle.irdl_engine.specs.declared.outcome.Outcome.TheVariants.{Accepted, Unreadable}
-use Rattle.irdl_engine.specs.declared.outcome.Outcome.TheVariants.{TooLong, Refused}
+use Rattle.irdl_engine.specs.declared.outcome.FileOutcome.{FileOutcome}
+use Rattle.irdl_engine.specs.declared.outcome.FileOutcome.TheVariants.{Accepted, Unreadable}
+use Rattle.irdl_engine.specs.declared.outcome.FileOutcome.TheVariants.{TooLong, Refused}
 use Rattle.irdl_engine.specs.declared.outcome.Refusal.{Refusal}
 use Rattle.irdl_engine.specs.Answer.{Answer, done, read_fault, input_limit, refused}
 use Rattle.irdl_engine.specs.Judged.{IsDefinition, IsRefusedAt}
 
 -- the answer for a file of this name and its outcome
-abbrev pub said : Text → Outcome → Answer
+abbrev pub said : Text → FileOutcome → Answer
 said name Accepted = done
 said name Unreadable = read_fault name
 said name TooLong = input_limit name

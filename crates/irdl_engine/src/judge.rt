@@ -6,10 +6,10 @@ ghost use Rattle.irdl_bytes.specs.Whole.{file_limit};
 ghost use Rattle.irdl_engine.specs.Command as spec;
 ghost use Rattle.irdl_engine.specs.Answer.{MayAnswer};
 ghost use Rattle.irdl_engine.specs.Judged as judged;
-ghost use Rattle.irdl_engine.specs.Judged.{Spells};
+ghost use Rattle.irdl_engine.specs.Judged.{SpellsFile};
 ghost use Rattle.irdl_engine.specs.Said.{said, StandsAt, IsVerdict};
 
-use crate::outcome::{Outcome, Refusal};
+use crate::outcome::{FileOutcome, Refusal};
 use crate::status::Status;
 use dialect_registry::{DefCode, judge_names};
 use generic_syntax::SyntaxStop;
@@ -48,7 +48,7 @@ fn judge_file_names(
     defs: &RawDefs,
 ) -> Result<Option<Refusal>, AllocError>
     requires { length src.now ≤ file_limit }
-    ensures { IfOk result (λ verdict. Spells src.now defs.now → IsVerdict src.now verdict) }
+    ensures { IfOk result (λ verdict. SpellsFile src.now defs.now → IsVerdict src.now verdict) }
 {
     match judge_names(alloc, defs)? {
         None => Ok(None),
@@ -72,7 +72,11 @@ pub fn judge_text(alloc: Global, src: &[u8]) -> Result<Option<Refusal>, AllocErr
 
 /// Reads a definition file and judges it.
 #[tactic(auto, using(crate::proofs::Judging::judging))]
-pub fn judge_file<F: Files>(alloc: Global, files: &mut F, def: &str) -> Result<Outcome, AllocError>
+pub fn judge_file<F: Files>(
+    alloc: Global,
+    files: &mut F,
+    def: &str,
+) -> Result<FileOutcome, AllocError>
     ensures planned { IfSome (F.file_map files.old) (λ m. IfOk result (λ o.
         MayAnswer m (FaultsByItself (F.steady files.old) (F.faults files.old) (F.faults files.new))
         (Some (spec.Check def.now)) (said def.now o))) }
@@ -82,11 +86,11 @@ pub fn judge_file<F: Files>(alloc: Global, files: &mut F, def: &str) -> Result<O
 {
     match read_whole(alloc, files, def) {
         Err(ReadError::OutOfMemory) => Err(AllocError),
-        Err(ReadError::ReadFault) => Ok(Outcome::Unreadable),
-        Err(ReadError::InputLimit) => Ok(Outcome::TooLong),
+        Err(ReadError::ReadFault) => Ok(FileOutcome::Unreadable),
+        Err(ReadError::InputLimit) => Ok(FileOutcome::TooLong),
         Ok(src) => match judge_text(alloc, &src)? {
-            None => Ok(Outcome::Accepted),
-            Some(refusal) => Ok(Outcome::Refused(refusal)),
+            None => Ok(FileOutcome::Accepted),
+            Some(refusal) => Ok(FileOutcome::Refused(refusal)),
         },
     }
 }

@@ -12,7 +12,7 @@ pub struct Refusal {
 
 /// What was found of a definition file.
 #[derive(Clone, Copy, Debug)]
-pub enum Outcome {
+pub enum FileOutcome {
     Accepted,
     /// It couldn't be opened or read.
     Unreadable,

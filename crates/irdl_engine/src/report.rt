@@ -7,7 +7,7 @@ ghost use Rattle.irdl_engine.specs.Answer.{usage, refused};
 ghost use Rattle.irdl_engine.specs.Said.{said};
 ghost use Rattle.irdl_engine.specs.Writes.{Says, change};
 
-use crate::outcome::{Outcome, Refusal};
+use crate::outcome::{FileOutcome, Refusal};
 use crate::status::Status;
 use irdl_bytes::Sink;
 use itoa::Buffer;
@@ -43,7 +43,7 @@ pub fn report_usage<S: Sink>(err: &mut S) -> Status
 
 /// Writes the line of the outcome of a file, if it has one. Else nothing can fail.
 #[tactic(auto, using(crate::proofs::Lines::lines))]
-pub fn report<S: Sink>(err: &mut S, name: &str, outcome: &Outcome) -> Status
+pub fn report<S: Sink>(err: &mut S, name: &str, outcome: &FileOutcome) -> Status
     ensures quiet { (said name.now outcome.now).err ≡ [] → result ≢ Status.WriteFault }
     ensures says { Says (said name.now outcome.now).status (said name.now outcome.now).err result
         (change (S.written err.old) (S.written err.new)) }
@@ -51,18 +51,18 @@ pub fn report<S: Sink>(err: &mut S, name: &str, outcome: &Outcome) -> Status
     ensures later { S.faults err.old ≤ S.faults err.new }
 {
     match outcome {
-        Outcome::Accepted => Status::Done,
-        Outcome::Unreadable => say(
+        FileOutcome::Accepted => Status::Done,
+        FileOutcome::Unreadable => say(
             err,
             Status::ReadFault,
             &["read fault: ".as_bytes(), name.as_bytes(), "\n".as_bytes()],
         ),
-        Outcome::TooLong => say(
+        FileOutcome::TooLong => say(
             err,
             Status::InputLimit,
             &["input limit: ".as_bytes(), name.as_bytes(), "\n".as_bytes()],
         ),
-        Outcome::Refused(refusal) => report_refusal(err, name, refusal),
+        FileOutcome::Refused(refusal) => report_refusal(err, name, refusal),
     }
 }
 

@@ -8,9 +8,9 @@ use Rattle.grammar.specs.Looks.{any_of, passes}
 use Rattle.irdl_ops.specs.Definitions.{entry}
 
 -- an entry begins with a word or with a value name, and with nothing else
-pub entry_begins : (t : Token)
+pub entry-begins : (t : Token)
     → starts flat.begins entry t ≡ (passes (any_of Word) t || passes (any_of ValueName) t)
-entry_begins t = go (passes (any_of Word) t) (passes (any_of ValueName) t)
+entry-begins t = go (passes (any_of Word) t) (passes (any_of ValueName) t)
   where
     go : (word value : Bool) → (((word || false) || false) || (true && value)) ≡ (word || value)
     go true value = refl

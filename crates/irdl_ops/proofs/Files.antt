@@ -10,33 +10,33 @@ use Rattle.grammar.specs.Front.{Viable, Shallow, Some_of, Front}
 use Rattle.grammar.specs.Grammar.{Tokens}
 use Rattle.grammar.specs.Looks.{any_of}
 use Rattle.grammar.specs.Rules.{whole}
-use Rattle.grammar.proofs.FlatReads.{flat_seen, flat_one_tree}
-use Rattle.grammar.proofs.Fronts.{front_no_refusal, one_refusal}
-use Rattle.grammar.proofs.Meet.{passes_class}
+use Rattle.grammar.proofs.FlatReads.{flat-seen, flat-one-tree}
+use Rattle.grammar.proofs.Fronts.{front-no-refusal, one-refusal}
+use Rattle.grammar.proofs.Meet.{passes-class}
 use Rattle.irdl_ops.specs.declared.raw.RawDefs.{RawDefs}
 use Rattle.irdl_ops.specs.Definitions.{file, DefText, TooDeepDef, IsFile}
-use Rattle.irdl_ops.proofs.OneToken.{file_checked}
+use Rattle.irdl_ops.proofs.OneToken.{file-checked}
 
 -- the last token of a file is the end
-pub file_ends : (ts : Tokens) (d : RawDefs) → DefText ts d
+pub file-ends : (ts : Tokens) (d : RawDefs) → DefText ts d
     → (front : Tokens) × (t : Token) × (ts ≡ front ++ t ∷ []) × (t.class ≡ End)
 unfolding DefText
-file_ends ts d (front, back, b, c, is, f, (t, is_last, passed, e2), e) =
-    (front, t, is ∙ ap (λ w. front ++ w) is_last, passes_class (any_of End) t passed)
+file-ends ts d (front, back, b, c, is, f, (t, is_last, passed, e2), e) =
+    (front, t, is ∙ ap (λ w. front ++ w) is_last, passes-class (any_of End) t passed)
 
 -- what is too deep is viable
-def_seen : (p : Tokens) → TooDeepDef p → Viable (Some_of DefText) p
+def-seen : (p : Tokens) → TooDeepDef p → Viable (Some_of DefText) p
 unfolding DefText TooDeepDef
-def_seen p x = flat_seen (whole file) file_checked p x
+def-seen p x = flat-seen (whole file) file-checked p x
 
 -- tokens spell one file
-pub one_file : (ts : Tokens) (a b : RawDefs) → DefText ts a → DefText ts b → a ≡ b
+pub one-file : (ts : Tokens) (a b : RawDefs) → DefText ts a → DefText ts b → a ≡ b
 unfolding DefText
-one_file ts a b x y = flat_one_tree (whole file) file_checked ts a b x y
+one-file ts a b x y = flat-one-tree (whole file) file-checked ts a b x y
 
 -- a whole file is the front of its tokens
-pub file_front : (ts : Tokens) (d : RawDefs) → IsFile ts d → Front DefText TooDeepDef ts d []
-file_front ts d x =
+pub file-front : (ts : Tokens) (d : RawDefs) → IsFile ts d → Front DefText TooDeepDef ts d []
+file-front ts d x =
     record {
       front = ts;
       is = sym (append-nil ts);
@@ -46,9 +46,9 @@ file_front ts d x =
     }
 
 -- a front that takes all tokens is a whole file
-pub front_file : (ts : Tokens) (d : RawDefs) (rest : Tokens) → Front DefText TooDeepDef ts d rest
+pub front-file : (ts : Tokens) (d : RawDefs) (rest : Tokens) → Front DefText TooDeepDef ts d rest
     → rest ≡ [] → IsFile ts d
-front_file ts d rest f none =
+front-file ts d rest f none =
     let e : ts ≡ f.front = f.is ∙ ap (λ w. f.front ++ w) none ∙ append-nil f.front in
     record {
       spelled = subst (λ (w : Tokens). DefText w d) (sym e) f.tree;
@@ -56,12 +56,12 @@ front_file ts d rest f none =
     }
 
 -- the tokens of a file are not refused
-pub file_not_refused : (ts : Tokens) (d : RawDefs) (place : ℕ) (code : SyntaxCode) → IsFile ts d
+pub file-not-refused : (ts : Tokens) (d : RawDefs) (place : ℕ) (code : SyntaxCode) → IsFile ts d
     → IsRefusal DefText TooDeepDef ts place code → ⊥
-file_not_refused ts d place code x r =
-    front_no_refusal DefText TooDeepDef def_seen ts d [] place code (file_front ts d x) r
+file-not-refused ts d place code x r =
+    front-no-refusal DefText TooDeepDef def-seen ts d [] place code (file-front ts d x) r
 
 -- tokens are refused at one place, with one code
-pub refused_once : (ts : Tokens) (p q : ℕ) (c e : SyntaxCode) → IsRefusal DefText TooDeepDef ts p c
+pub refused-once : (ts : Tokens) (p q : ℕ) (c e : SyntaxCode) → IsRefusal DefText TooDeepDef ts p c
     → IsRefusal DefText TooDeepDef ts q e → (p ≡ q) × (c ≡ e)
-refused_once ts p q c e x y = one_refusal DefText TooDeepDef def_seen ts p q c e x y
+refused-once ts p q c e x y = one-refusal DefText TooDeepDef def-seen ts p q c e x y

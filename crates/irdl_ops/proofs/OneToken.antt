@@ -6,6 +6,6 @@ use Rattle.grammar.specs.Rules.{whole}
 use Rattle.grammar.proofs.FlatReads.{no_looks}
 use Rattle.irdl_ops.specs.Definitions.{file}
 
-pub file_checked : check no_looks no_looks (whole file) ≡ true
+pub file-checked : check no_looks no_looks (whole file) ≡ true
 unfolding same_class
-file_checked = refl
+file-checked = refl

@@ -34,18 +34,18 @@ both-true : (p q : Bool) → (p && q) ≡ true → (p ≡ true) × (q ≡ true)
 both-true true q e = (refl, e)
 both-true false q e = cc
 
-text_lt-Less : (a b : List ℕ) → text_lt a b ≡ true → compare_texts a b ≡ Less
-text_lt-Less [] [] e = cc
-text_lt-Less [] (y ∷ ys) e = refl
-text_lt-Less (x ∷ xs) [] e = cc
-text_lt-Less (x ∷ xs) (y ∷ ys) e = elim (or-cases _ _ e) [
+text-lt-Less : (a b : List ℕ) → text_lt a b ≡ true → compare_texts a b ≡ Less
+text-lt-Less [] [] e = cc
+text-lt-Less [] (y ∷ ys) e = refl
+text-lt-Less (x ∷ xs) [] e = cc
+text-lt-Less (x ∷ xs) (y ∷ ys) e = elim (or-cases _ _ e) [
   | inl less ↦
       let first : Less ≡ nat_cmp x y = nat_cmp_is x y Less (ltb-true x y less) in
       ap (λ r. ordering_then r (compare_texts xs ys)) (sym first)
   | inr level ↦
       let both = both-true _ _ level in
       let first : Equal ≡ nat_cmp x y = nat_cmp_is x y Equal (eqb-true x y both.0) in
-      ap (λ r. ordering_then r (compare_texts xs ys)) (sym first) ∙ text_lt-Less xs ys both.1
+      ap (λ r. ordering_then r (compare_texts xs ys)) (sym first) ∙ text-lt-Less xs ys both.1
 ]
 
 all-below : (a b : List ℕ) (keys : List (List ℕ)) → compare_texts a b ≡ Less
@@ -62,13 +62,13 @@ sorted [] h = tt
 sorted (a ∷ []) h = (tt, tt)
 sorted (a ∷ b ∷ rest) h =
     let later = sorted (b ∷ rest) h.1 in
-    let less : compare_texts a b ≡ Less = text_lt-Less a b (search h.0) in
+    let less : compare_texts a b ≡ Less = text-lt-Less a b (search h.0) in
     ((less, all-below a b rest less later.0), later)
 
-index_at_most : (r : Ordering) → ordering_index r ≤ 2
-index_at_most Less = omega arith
-index_at_most Equal = omega arith
-index_at_most Greater = omega arith
+index-at-most : (r : Ordering) → ordering_index r ≤ 2
+index-at-most Less = omega arith
+index-at-most Equal = omega arith
+index-at-most Greater = omega arith
 
 -- what stands below compares no higher
 below-by : (x y key : List ℕ) (r : Ordering) → compare_texts y key ≡ r
@@ -84,7 +84,7 @@ below-by x y key Equal is less =
     ∙ ap ordering_reverse (sym level)
     ∙ sym (nat_list_cmp_total.antisymm x y) ∙ less in
     rw first (omega arith)
-below-by x y key Greater is less = index_at_most (compare_texts x key)
+below-by x y key Greater is less = index-at-most (compare_texts x key)
 
 pub rises : (keys : List (List ℕ)) (key : List ℕ) → Ascend keys
     → IsNonDecreasingBy (λ y. ordering_index (compare_texts y key)) keys
@@ -157,13 +157,13 @@ apart keys key i point j within = elim (cases_lt j i) [
 ]
 
 -- the value of a key is that of its id
-pub attr_at-seen : (values : List Value) (keys : List (List ℕ)) (ids : List ValueId) (key : List ℕ)
+pub attr-at-seen : (values : List Value) (keys : List (List ℕ)) (ids : List ValueId) (key : List ℕ)
     → attr_at (attrs_seen values keys ids) key
     ≡ option_map (λ (id : ValueId). at values id.0) (id_of_key keys ids key)
-attr_at-seen values [] ids key = refl
-attr_at-seen values (own ∷ keys) [] key = refl
-attr_at-seen values (own ∷ keys) (id ∷ ids) key =
-    if-mapped (bytes_eq own key) id _ (attr_at-seen values keys ids key)
+attr-at-seen values [] ids key = refl
+attr-at-seen values (own ∷ keys) [] key = refl
+attr-at-seen values (own ∷ keys) (id ∷ ids) key =
+    if-mapped (bytes_eq own key) id _ (attr-at-seen values keys ids key)
   where
     if-mapped : (b : Bool) (id : ValueId) (other : Option ValueId) {seen : Option Value}
         → seen ≡ option_map (λ (id : ValueId). at values id.0) other

@@ -10,13 +10,13 @@ use Rattle.constraint_solver.specs.Roots.{HasRoots, AreRoots, assigned}
 use Rattle.dialect_defs.specs.declared.body.Body.{Body}
 use Rattle.dialect_defs.specs.declared.body.VarId.{VarId}
 use Rattle.dialect_defs.specs.declared.definition.OpDef.{OpDef}
-use Rattle.dialect_defs.specs.Assignments.{Tests, Assignment, Meets}
+use Rattle.dialect_defs.specs.Assignments.{Tests, Assignment, MeetsBody}
 use Rattle.dialect_defs.specs.Operations.{Operation, MeetsDefinition}
 use Rattle.ir_store.specs.Modules.{types_in}
 use Rattle.ir_store.specs.Numbering.{ops_in}
 use Rattle.ir_store.specs.Store.{Module}
 use Rattle.op_verifier.specs.Meets.{MeetsNamed, HasFronts, CanJudge}
-use Rattle.op_verifier.specs.Seen.{Site, seen, type_in, HasIds}
+use Rattle.op_verifier.specs.Seen.{Site, operation_seen, type_in, HasIds}
 use Rattle.op_verifier.proofs.Fronts.{fronts-have, fronts-meet}
 use Rattle.op_verifier.proofs.RegionSteps.{type-known}
 use Rattle.op_verifier.specs.Asked.{Slots, AreKnownSlots, Asks, Refuses}
@@ -25,7 +25,7 @@ use Rattle.op_verifier.proofs.RootLists.{none-within, roots-within, within-roots
 use Rattle.op_verifier.proofs.RootLists.{roots-ids}
 
 module _ (values : List Value) (tests : Tests) (d : OpDef) (o : Operation) where
-  pub meets-of-parts : (a : Assignment) → Meets values tests d.body a → HasParts d o a
+  pub meets-of-parts : (a : Assignment) → MeetsBody values tests d.body a → HasParts d o a
       → MeetsDefinition values tests d o
   meets-of-parts a body parts = record {
     operand_sizes = parts.operands.sizes;
@@ -69,7 +69,7 @@ module _ (values : List Value) (tests : Tests) (d : OpDef) (o : Operation) where
   -- an assignment that has all that is asked
   pub solved : (s t : Slots) (roots : List (VarId × ValueId)) (a : Assignment)
       → roots ≡ roots_of 0 t → Asks values s t (HasParts d o)
-      → Meets values tests d.body a → HasRoots values roots a → MeetsDefinition values tests d o
+      → MeetsBody values tests d.body a → HasRoots values roots a → MeetsDefinition values tests d o
   solved s t roots a same asks body has =
       let within = roots-within values t a (subst (λ l. HasRoots values l a) same has) in
       meets-of-parts a body (asks.up a within tt).1
@@ -78,7 +78,7 @@ module _ (values : List Value) (tests : Tests) (d : OpDef) (o : Operation) where
   pub unsolved : (s t : Slots) (roots : List (VarId × ValueId))
       → AllByRecursion (λ slot. slot ≡ None) s
       → roots ≡ roots_of 0 t → Asks values s t (HasParts d o)
-      → ((a : Assignment) → Meets values tests d.body a → HasRoots values roots a → ⊥)
+      → ((a : Assignment) → MeetsBody values tests d.body a → HasRoots values roots a → ⊥)
       → MeetsDefinition values tests d o → ⊥
   unsolved s t roots none same asks never m =
       let within = asks.down m.assignment (none-within values s none m.assignment)
@@ -111,13 +111,13 @@ decided (Some ids) b Body Root P values is body root none some never =
 -- to meet the definition that is named is to meet the one at its place
 pub named-meets : (values : List Value) (tests : Tests) (defs : List OpDef) (types : List ValueId)
     (x : Site) (d : OpDef) (b : Bool) → slice_get defs x.head.name.def ≡ Some d
-    → (IsTrue b ↔ MeetsDefinition values tests d (seen values types x))
+    → (IsTrue b ↔ MeetsDefinition values tests d (operation_seen values types x))
     → IsTrue b ↔ MeetsNamed values tests defs types x
 named-meets values tests defs types x d b e judged = (
   λ yes. record { definition = d; named = e; meets = judged.0 yes },
   λ m.
       let same : m.definition ≡ d = let f = m.named in cc in
-      judged.1 (subst (λ k. MeetsDefinition values tests k (seen values types x)) same m.meets),
+      judged.1 (subst (λ k. MeetsDefinition values tests k (operation_seen values types x)) same m.meets),
 )
 
 -- an operation with the same fronts gets the same answer

@@ -19,20 +19,20 @@ pub all-push : {X : Type 0} (P : X → Type 0) (xs : List X) (x : X) → AllByRe
 all-push P [] x all p = (p, tt)
 all-push P (y ∷ ys) x all p = (all.0, all-push P ys x all.1 p)
 
-get-set_same : {X : Type 0} (xs : List X) (i : ℕ) (x : X) → i < length xs
+get-set-same : {X : Type 0} (xs : List X) (i : ℕ) (x : X) → i < length xs
     → slice_get (slice_set xs i x) i ≡ Some x
-get-set_same [] i x within = absurd (omega arith)
-get-set_same (y ∷ ys) zero x within = refl
-get-set_same (y ∷ ys) (suc i) x within = get-set_same ys i x (omega arith)
+get-set-same [] i x within = absurd (omega arith)
+get-set-same (y ∷ ys) zero x within = refl
+get-set-same (y ∷ ys) (suc i) x within = get-set-same ys i x (omega arith)
 
-get-set_other : {X : Type 0} (xs : List X) (i j : ℕ) (x : X) → i ≢ j
+get-set-other : {X : Type 0} (xs : List X) (i j : ℕ) (x : X) → i ≢ j
     → slice_get (slice_set xs i x) j ≡ slice_get xs j
-get-set_other [] i j x other = refl
-get-set_other (y ∷ ys) zero zero x other = absurd (other refl)
-get-set_other (y ∷ ys) zero (suc j) x other = refl
-get-set_other (y ∷ ys) (suc i) zero x other = refl
-get-set_other (y ∷ ys) (suc i) (suc j) x other =
-    get-set_other ys i j x (λ e. other (ap suc e))
+get-set-other [] i j x other = refl
+get-set-other (y ∷ ys) zero zero x other = absurd (other refl)
+get-set-other (y ∷ ys) zero (suc j) x other = refl
+get-set-other (y ∷ ys) (suc i) zero x other = refl
+get-set-other (y ∷ ys) (suc i) (suc j) x other =
+    get-set-other ys i j x (λ e. other (ap suc e))
 
 module _ (values : List Value) where
   pub asked-get : (s : Slots) (v : ℕ) (id : ValueId) → slice_get s v ≡ Some (Some id)
@@ -47,12 +47,12 @@ module _ (values : List Value) where
       slice_get-map (option_map (λ (id : ValueId). at values id.0)) s v
       ∙ ap (option_map (option_map (λ (id : ValueId). at values id.0))) e
 
-  set-asked_other : (s : Slots) (i j : ℕ) (x : Option ValueId) → i ≢ j
+  set-asked-other : (s : Slots) (i j : ℕ) (x : Option ValueId) → i ≢ j
       → slice_get (assigned values (slice_set s i x)) j ≡ slice_get (assigned values s) j
-  set-asked_other s i j x other =
+  set-asked-other s i j x other =
       slice_get-map (option_map (λ (id : ValueId). at values id.0)) (slice_set s i x) j
       ∙ ap (option_map (option_map (λ (id : ValueId). at values id.0)))
-      (get-set_other s i j x other)
+      (get-set-other s i j x other)
       ∙ sym (slice_get-map (option_map (λ (id : ValueId). at values id.0)) s j)
 
   -- a variable that nothing was asked of gets a value
@@ -61,7 +61,7 @@ module _ (values : List Value) where
       → Asks values s (slice_set s var.0 (Some id)) (λ a. Has a var (at values id.0))
   ask-first s var id known here free =
       let within : var.0 < length s = slice_get_within s var.0 None free in
-      let gets = get-set_same s var.0 (Some id) within in
+      let gets = get-set-same s var.0 (Some id) within in
       let new : slice_get (assigned values (slice_set s var.0 (Some id))) var.0
       ≡ Some (Some (at values id.0)) =
       asked-get (slice_set s var.0 (Some id)) var.0 id gets in
@@ -73,7 +73,7 @@ module _ (values : List Value) where
               subst (λ k. slice_get (slice_set s var.0 (Some id)) k ≡ Some (Some id)) same gets in
               let ids : id ≡ other = cc in
               subst (λ (k : ValueId). k.0 < length values) ids here
-          | inr differ ↦ known i other (sym (get-set_other s var.0 i (Some id) differ) ∙ e)
+          | inr differ ↦ known i other (sym (get-set-other s var.0 i (Some id) differ) ∙ e)
         ];
         down = λ a w has. (
           λ v x e. elim (cases_eq var.0 v.0) [
@@ -86,7 +86,7 @@ module _ (values : List Value) where
                 let place : slice_get a v.0 ≡ Some (Some (at values id.0)) =
                 subst (λ k. slice_get a k ≡ Some (Some (at values id.0))) same has in
                 place ∙ ap (λ y. Some (Some y)) value
-            | inr differ ↦ w v x (sym (set-asked_other s var.0 v.0 (Some id) differ) ∙ e)
+            | inr differ ↦ w v x (sym (set-asked-other s var.0 v.0 (Some id) differ) ∙ e)
           ],
           tt,
         );
@@ -97,7 +97,7 @@ module _ (values : List Value) where
                 subst (λ k. slice_get (assigned values s) k ≡ Some None) same
                 (asked-none s var.0 free) in
                 cc
-            | inr differ ↦ w v x (set-asked_other s var.0 v.0 (Some id) differ ∙ e)
+            | inr differ ↦ w v x (set-asked-other s var.0 v.0 (Some id) differ ∙ e)
           ],
           w var (at values id.0) new,
         );

@@ -7,7 +7,7 @@
 --                                 attributes have values of a table of len
 --   CanJudge count len m          each operation of the module is such, and the types of the module
 --                                 are in the table too
---   Meets .. m site               it meets its definition with the types of its operands
+--   MeetsStored .. m site               it meets its definition with the types of its operands
 --   AllMeet .. m                  each operation of the module does
 --   IsFirstFault .. m id at       the operation of this id is the first that doesn't, and stands
 --                                 at this place
@@ -26,14 +26,14 @@ use Rattle.ir_store.specs.Named.{op_at}
 use Rattle.ir_store.specs.Numbering.{ops_in}
 use Rattle.ir_store.specs.Store.{Module}
 use Rattle.ir_store.specs.declared.rows.OpId.{OpId}
-use Rattle.op_verifier.specs.Seen.{Site, seen, operand_types}
+use Rattle.op_verifier.specs.Seen.{Site, operation_seen, operand_types}
 
 -- The definition is that at the place in the list which the operation names.
 pub record MeetsNamed (values : List Value) (tests : Tests) (defs : List OpDef)
     (types : List ValueId) (site : Site) : Type 0 where
   pub definition : OpDef
   pub named : slice_get defs site.head.name.def ≡ Some definition
-  pub meets : MeetsDefinition values tests definition (seen values types site)
+  pub meets : MeetsDefinition values tests definition (operation_seen values types site)
 
 abbrev pub NamesDef : ℕ → Site → Type 0
 NamesDef count site = site.head.name.def < count
@@ -47,12 +47,12 @@ pub record CanJudge (count len : ℕ) (m : Module) : Type 0 where
   pub types : AreKnown len (types_in m)
   pub ops : AllByRecursion (IsJudgeable count len m) (ops_in m)
 
-abbrev pub Meets : List Value → Tests → List OpDef → Module → Site → Type 0
-Meets values tests defs m site = MeetsNamed values tests defs (operand_types m site) site
+abbrev pub MeetsStored : List Value → Tests → List OpDef → Module → Site → Type 0
+MeetsStored values tests defs m site = MeetsNamed values tests defs (operand_types m site) site
 
 abbrev pub AllMeet : List Value → Tests → List OpDef → Module → Type 0
 AllMeet values tests defs m = (id : OpId) (site : Site) → op_at m id ≡ Some site
-    → Meets values tests defs m site
+    → MeetsStored values tests defs m site
 
 -- It stands in the module, at this place of its text, and all before it meet.
 pub record IsFirstFault (values : List Value) (tests : Tests) (defs : List OpDef) (m : Module)
@@ -60,9 +60,9 @@ pub record IsFirstFault (values : List Value) (tests : Tests) (defs : List OpDef
   pub site : Site
   pub stands : op_at m id ≡ Some site
   pub place : at ≡ site.head.name.place
-  pub fails : Meets values tests defs m site → ⊥
+  pub fails : MeetsStored values tests defs m site → ⊥
   pub before : (other : OpId) (x : Site) → other.0 < id.0 → op_at m other ≡ Some x
-      → Meets values tests defs m x
+      → MeetsStored values tests defs m x
 
 -- as many blocks, and the same arguments of the first
 abbrev pub SameFront : List (List Value) → List (List Value) → Type 0

@@ -7,7 +7,7 @@
 --   regions_seen values regions    for each block of each region the types of its arguments
 --   operation values types head regions      an operation by its parts in the store, where its
 --                                  operands have these types
---   seen values types site         the operation at a site
+--   operation_seen values types site         the operation at a site
 --   type_in m n                    the type of a value of the module
 --   operand_types m site           the types of the operands at a site
 --   HasIds len m                   types and attributes of the module are values of a table of len
@@ -20,7 +20,7 @@ use Rattle.dialect_defs.specs.Operations.{Attrs, Operation}
 use Rattle.ir_store.specs.Modules.{Regions, Blocks, no_regions, region, no_blocks, block}
 use Rattle.ir_store.specs.Modules.{types_in}
 use Rattle.ir_store.specs.Numbering.{OpSite, ops_in}
-use Rattle.ir_store.specs.Store.{OpName, Head, Module}
+use Rattle.ir_store.specs.Store.{OpName, StoredHead, Module}
 
 -- an operation where it stands in a stored module
 abbrev pub Site : Type 0
@@ -46,7 +46,7 @@ regions_seen values (region blocks regions) =
     blocks_seen values blocks ∷ regions_seen values regions
 
 -- the operation of a head and regions, where its operands have these types
-abbrev pub operation : List Value → List ValueId → Head → Regions OpName ValueId → Operation
+abbrev pub operation : List Value → List ValueId → StoredHead → Regions OpName ValueId → Operation
 operation values types head regions = record {
   operands = values_at values types;
   results = values_at values head.results;
@@ -55,8 +55,8 @@ operation values types head regions = record {
   regions = regions_seen values regions;
 }
 
-abbrev pub seen : List Value → List ValueId → Site → Operation
-seen values types site = operation values types site.head site.regions
+abbrev pub operation_seen : List Value → List ValueId → Site → Operation
+operation_seen values types site = operation values types site.head site.regions
 
 -- the type of a value of the module
 abbrev pub type_in : Module → ℕ → ValueId

@@ -9,8 +9,8 @@ ghost use Rattle.ir_store.specs.Named.{op_at};
 ghost use Rattle.ir_store.specs.Numbering.{ops_in};
 ghost use Rattle.native_predicate.specs.Lists.{tests, count};
 ghost use Rattle.op_verifier.specs.Meets.{NamesDef, IsJudgeable, CanJudge};
-ghost use Rattle.op_verifier.specs.Meets.{MeetsNamed, Meets, AllMeet, IsFirstFault, HasFronts};
-ghost use Rattle.op_verifier.specs.Seen.{HasIds, seen};
+ghost use Rattle.op_verifier.specs.Meets.{MeetsNamed, MeetsStored, AllMeet, IsFirstFault, HasFronts};
+ghost use Rattle.op_verifier.specs.Seen.{HasIds, operation_seen};
 ghost use Rattle.op_verifier.specs.Sound.{IsSoundOp, AreSoundOps};
 ghost use Rattle.op_verifier.specs.Types.{ids_of};
 
@@ -45,7 +45,7 @@ fn judge(
     requires op { op.0 < length (ops_in store.now) }
     ensures { ForSome (op_at store.now op) (λ x. IsTrue result
         ↔ MeetsDefinition u.now (tests property natives.now) def.now
-        (seen u.now (ids_of types.now) x)) }
+        (operation_seen u.now (ids_of types.now) x)) }
 {
     let mut wanted = Wanted::new(def.body.vars.as_slice().len());
     if !wanted.ask_parts(u, def, store, op, types) {
@@ -95,7 +95,7 @@ pub fn meets(
     ensures meets { ForSome (op_at store.now op) (λ x. IsTrue result
         ↔ MeetsNamed u.now (tests property natives.now) defs.now operands.now x) }
     ensures fronts { ForSome (op_at store.now op) (λ x. (d : Def) (o : Operation)
-        → slice_get defs.now x.head.name.def ≡ Some d → HasFronts o (seen u.now operands.now x)
+        → slice_get defs.now x.head.name.def ≡ Some d → HasFronts o (operation_seen u.now operands.now x)
         → (IsTrue result ↔ MeetsDefinition u.now (tests property natives.now) d o)) }
 {
     let def = definition(defs, store, op);
@@ -110,7 +110,7 @@ fn meets_stored(defs: &[OpDef], natives: &Natives, u: &Uniquer, store: &Store, o
     requires judgeable { ForSome (op_at store.now op)
         (IsJudgeable (length defs.now) (length u.now) store.now) }
     ensures { ForSome (op_at store.now op) (λ x. IsTrue result
-        ↔ Meets u.now (tests property natives.now) defs.now store.now x) }
+        ↔ MeetsStored u.now (tests property natives.now) defs.now store.now x) }
 {
     let def = definition(defs, store, op);
     let types = Types::Stored(store, store.op(op).operands.as_slice());

@@ -10,7 +10,7 @@ ghost use Rattle.ir_store.specs.Numbering.{ops_in};
 ghost use Rattle.ir_store.specs.Store.{head_of};
 ghost use Rattle.op_verifier.specs.Asked.{AreKnownSlots, Asks, Refuses};
 ghost use Rattle.op_verifier.specs.Parts.{HasSegments, HasParts};
-ghost use Rattle.op_verifier.specs.Seen.{HasIds, seen, values_at, attrs_seen};
+ghost use Rattle.op_verifier.specs.Seen.{HasIds, operation_seen, values_at, attrs_seen};
 ghost use Rattle.op_verifier.specs.Sound.{EntriesAreBelow, NamesAreBelow};
 ghost use Rattle.op_verifier.specs.Types.{ids_of};
 
@@ -81,10 +81,10 @@ impl Wanted {
         requires op { op.0 < length (ops_in store.now) }
         ensures asks { ForSome (op_at store.now op) (λ x. IsTrue result
             → Asks u.now self.old.slots.items self.new.slots.items
-            (HasParts def.now (seen u.now (ids_of types.now) x))) }
+            (HasParts def.now (operation_seen u.now (ids_of types.now) x))) }
         ensures refuses { ForSome (op_at store.now op) (λ x. result ≡ false
             → Refuses u.now self.old.slots.items
-            (HasParts def.now (seen u.now (ids_of types.now) x))) }
+            (HasParts def.now (operation_seen u.now (ids_of types.now) x))) }
     {
         let row = store.op(op);
         if row.successors.len() != def.successors.as_slice().len() {

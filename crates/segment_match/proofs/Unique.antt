@@ -39,79 +39,79 @@ flexible-counts es =
     (λ e rest. looseness-counts e.arity (flexible rest)) es
 
 -- a single entry's size is 1
-single_size : (a : Arity) (n : ℕ) → FitsArity a n → looseness a ≡ 0 → n ≡ 1
-single_size Single n h z = h
-single_size Optional n h z = absurd (omega arith)
-single_size Variadic n h z = absurd (omega arith)
+single-size : (a : Arity) (n : ℕ) → FitsArity a n → looseness a ≡ 0 → n ≡ 1
+single-size Single n h z = h
+single-size Optional n h z = absurd (omega arith)
+single-size Variadic n h z = absurd (omega arith)
 
-at_least : (a : Arity) (n : ℕ) → FitsArity a n → 1 ≤ n + looseness a
-at_least Single n h = omega arith
-at_least Optional n h = omega arith
-at_least Variadic n h = omega arith
+at-least : (a : Arity) (n : ℕ) → FitsArity a n → 1 ≤ n + looseness a
+at-least Single n h = omega arith
+at-least Optional n h = omega arith
+at-least Variadic n h = omega arith
 
-loose_at_most : (a : Arity) → looseness a ≤ 1
-loose_at_most Single = omega arith
-loose_at_most Optional = omega arith
-loose_at_most Variadic = omega arith
+loose-at-most : (a : Arity) → looseness a ≤ 1
+loose-at-most Single = omega arith
+loose-at-most Optional = omega arith
+loose-at-most Variadic = omega arith
 
-size_single : (a : Arity) (rest : ℕ) → looseness a ≡ 0 → size_at a rest ≡ 1
-size_single Single rest z = refl
-size_single Optional rest z = absurd (omega arith)
-size_single Variadic rest z = absurd (omega arith)
+size-single : (a : Arity) (rest : ℕ) → looseness a ≡ 0 → size_at a rest ≡ 1
+size-single Single rest z = refl
+size-single Optional rest z = absurd (omega arith)
+size-single Variadic rest z = absurd (omega arith)
 
-size_loose : (a : Arity) (rest : ℕ) → 0 < looseness a → size_at a rest ≡ rest
-size_loose Single rest z = absurd (omega arith)
-size_loose Optional rest z = refl
-size_loose Variadic rest z = refl
+size-loose : (a : Arity) (rest : ℕ) → 0 < looseness a → size_at a rest ≡ rest
+size-loose Single rest z = absurd (omega arith)
+size-loose Optional rest z = refl
+size-loose Variadic rest z = refl
 
-pub sum_at_least : (es : List Entry) (s : List ℕ) → FitEach es s
+pub sum-at-least : (es : List Entry) (s : List ℕ) → FitEach es s
     → length es ≤ sum s + flexible es
-sum_at_least [] [] h = omega arith
-sum_at_least (e ∷ es) (n ∷ ns) h =
-    omega (arith, sum-cons n ns, sum_at_least es ns h.1, at_least e.arity n h.0)
-sum_at_least [] (n ∷ ns) h = absurd h
-sum_at_least (e ∷ es) [] h = absurd h
+sum-at-least [] [] h = omega arith
+sum-at-least (e ∷ es) (n ∷ ns) h =
+    omega (arith, sum-cons n ns, sum-at-least es ns h.1, at-least e.arity n h.0)
+sum-at-least [] (n ∷ ns) h = absurd h
+sum-at-least (e ∷ es) [] h = absurd h
 
 pub flexible-le-length : (es : List Entry) → flexible es ≤ length es
 flexible-le-length [] = omega arith
-flexible-le-length (e ∷ es) = omega (arith, flexible-le-length es, loose_at_most e.arity)
+flexible-le-length (e ∷ es) = omega (arith, flexible-le-length es, loose-at-most e.arity)
 
 -- where all are single, the sizes are as many as the entries in all
-rigid_sum : (es : List Entry) (s : List ℕ) → FitEach es s → flexible es ≡ 0 → sum s ≡ length es
-rigid_sum [] [] h z = refl
-rigid_sum (e ∷ es) (n ∷ ns) h z =
-    let one : n ≡ 1 = single_size e.arity n h.0 (omega arith) in
-    omega (arith, sum-cons n ns, rigid_sum es ns h.1 (omega arith))
-rigid_sum [] (n ∷ ns) h z = absurd h
-rigid_sum (e ∷ es) [] h z = absurd h
+rigid-sum : (es : List Entry) (s : List ℕ) → FitEach es s → flexible es ≡ 0 → sum s ≡ length es
+rigid-sum [] [] h z = refl
+rigid-sum (e ∷ es) (n ∷ ns) h z =
+    let one : n ≡ 1 = single-size e.arity n h.0 (omega arith) in
+    omega (arith, sum-cons n ns, rigid-sum es ns h.1 (omega arith))
+rigid-sum [] (n ∷ ns) h z = absurd h
+rigid-sum (e ∷ es) [] h z = absurd h
 
 rigid : (es : List Entry) (s : List ℕ) (rest : ℕ) → FitEach es s → flexible es ≡ 0
     → s ≡ spread es rest
 rigid [] [] rest h z = refl
 rigid (e ∷ es) (n ∷ ns) rest h z =
-    let one : n ≡ 1 = single_size e.arity n h.0 (omega arith) in
-    let same : size_at e.arity rest ≡ 1 = size_single e.arity rest (omega arith) in
+    let one : n ≡ 1 = single-size e.arity n h.0 (omega arith) in
+    let same : size_at e.arity rest ≡ 1 = size-single e.arity rest (omega arith) in
     cc (rigid es ns rest h.1 (omega arith))
 rigid [] (n ∷ ns) rest h z = absurd h
 rigid (e ∷ es) [] rest h z = absurd h
 
 -- the step, given that the rest is determined where it has the other entry
-loose_step : (e : Entry) (es : List Entry) (n : ℕ) (ns : List ℕ) (rest k : ℕ)
+loose-step : (e : Entry) (es : List Entry) (n : ℕ) (ns : List ℕ) (rest k : ℕ)
     → looseness e.arity ≡ k → FitEach (e ∷ es) (n ∷ ns) → flexible (e ∷ es) ≡ 1
     → sum (n ∷ ns) + 1 ≡ length (e ∷ es) + rest
     → (flexible es ≡ 1 → sum ns + 1 ≡ length es + rest → ns ≡ spread es rest)
     → (n ∷ ns) ≡ spread (e ∷ es) rest
-loose_step e es n ns rest zero z h f q tail =
-    let one : n ≡ 1 = single_size e.arity n h.0 z in
-    let same : size_at e.arity rest ≡ 1 = size_single e.arity rest z in
+loose-step e es n ns rest zero z h f q tail =
+    let one : n ≡ 1 = single-size e.arity n h.0 z in
+    let same : size_at e.arity rest ≡ 1 = size-single e.arity rest z in
     let later : ns ≡ spread es rest = tail (omega arith) (omega (arith, sum-cons n ns)) in
     cc
-loose_step e es n ns rest (suc k) z h f q tail =
+loose-step e es n ns rest (suc k) z h f q tail =
     let none : flexible es ≡ 0 = omega arith in
     let later : ns ≡ spread es rest = rigid es ns rest h.1 none in
-    let total : sum ns ≡ length es = rigid_sum es ns h.1 none in
+    let total : sum ns ≡ length es = rigid-sum es ns h.1 none in
     let here : n ≡ rest = omega (arith, sum-cons n ns) in
-    let same : size_at e.arity rest ≡ rest = size_loose e.arity rest (omega arith) in
+    let same : size_at e.arity rest ≡ rest = size-loose e.arity rest (omega arith) in
     cc
 
 loose : (es : List Entry) (s : List ℕ) (rest : ℕ) → FitEach es s → flexible es ≡ 1
@@ -119,19 +119,19 @@ loose : (es : List Entry) (s : List ℕ) (rest : ℕ) → FitEach es s → flexi
 loose [] s rest h f e = absurd (omega arith)
 loose (e ∷ es) [] rest h f q = absurd h
 loose (e ∷ es) (n ∷ ns) rest h f q =
-    loose_step e es n ns rest (looseness e.arity) refl h f q (loose es ns rest h.1)
+    loose-step e es n ns rest (looseness e.arity) refl h f q (loose es ns rest h.1)
 
-determined_by : (es : List Entry) (s : List ℕ) (n rest f : ℕ) → flexible es ≡ f → flexible es < 2
+determined-by : (es : List Entry) (s : List ℕ) (n rest f : ℕ) → flexible es ≡ f → flexible es < 2
     → sum s ≡ n → rest ≡ n - (length es - flexible es) → FitEach es s → s ≡ spread es rest
-determined_by es s n rest zero z few total left h = rigid es s rest h z
-determined_by es s n rest (suc f) z few total left h =
-    loose es s rest h (omega arith) (omega (arith, sum_at_least es s h, flexible-le-length es))
+determined-by es s n rest zero z few total left h = rigid es s rest h z
+determined-by es s n rest (suc f) z few total left h =
+    loose es s rest h (omega arith) (omega (arith, sum-at-least es s h, flexible-le-length es))
 
 -- sizes with at most one entry that isn't single are determined by their sum
 pub determined : (es : List Entry) (s : List ℕ) (n rest : ℕ) → flexible es < 2 → sum s ≡ n
     → rest ≡ n - (length es - flexible es) → FitEach es s → s ≡ spread es rest
 determined es s n rest few total left h =
-    determined_by es s n rest (flexible es) refl few total left h
+    determined-by es s n rest (flexible es) refl few total left h
 
 -- a list with a negative number is no list of naturals
 pub negative : (g : List ℤ) (s : List ℕ) (i : ℕ) → get_or g i (pos 0) <ℤ pos 0 → g ≡ map pos s → ⊥
@@ -140,18 +140,18 @@ negative g s i h e =
     ap (λ l. get_or l i (pos 0)) e ∙ get_or-map pos s i 0 in
     omega (arith, ints)
 
-pub naturals_same : (s t : List ℕ) → map pos s ≡ map pos t → s ≡ t
-naturals_same [] [] e = refl
-naturals_same [] (y ∷ t) e = cc
-naturals_same (x ∷ s) [] e = cc
-naturals_same (x ∷ s) (y ∷ t) e =
+pub naturals-same : (s t : List ℕ) → map pos s ≡ map pos t → s ≡ t
+naturals-same [] [] e = refl
+naturals-same [] (y ∷ t) e = cc
+naturals-same (x ∷ s) [] e = cc
+naturals-same (x ∷ s) (y ∷ t) e =
     let rest : map pos s ≡ map pos t = cc in
-    let tails : s ≡ t = naturals_same s t rest in
+    let tails : s ≡ t = naturals-same s t rest in
     let heads : x ≡ y = cc in
     cc
 
-few-need_none : (es : List Entry) → flexible es < 2 → needs_sizes es ≡ true → ⊥
-few-need_none es few need =
+few-need-none : (es : List Entry) → flexible es < 2 → needs_sizes es ≡ true → ⊥
+few-need-none es few need =
     let many : 1 < count_by (λ e. not (is_single e.arity)) es = ltb-true _ _ need in
     omega (arith, flexible-counts es)
 
@@ -169,7 +169,7 @@ few-some None es n g few h = tt
 few-some (Some v) es n g few h = record {
   fit = h.0;
   total = h.1;
-  as_given = λ need. absurd (few-need_none es few need);
+  as_given = λ need. absurd (few-need-none es few need);
 }
 
 -- what is checked is the only list
@@ -190,16 +190,16 @@ few-only r es n rest g t few left spreads check s h =
     (determined es s n rest few h.total left h.fit ∙ sym spreads) check h
 
 -- sizes of entries that need given ones are the given ones
-pub given_is : (es : List Entry) (n : ℕ) (g : Option (List ℤ)) (l : List ℤ) (s : List ℕ)
+pub given-is : (es : List Entry) (n : ℕ) (g : Option (List ℤ)) (l : List ℤ) (s : List ℕ)
     → 2 ≤ flexible es → g ≡ Some l → Segments es n g s → l ≡ map pos s
-given_is es n g l s many e h =
+given-is es n g l s many e h =
     let given : g ≡ Some (map pos s) = h.as_given (many-need es many) in
     cc
 
 pub given-length : (es : List Entry) (n : ℕ) (g : Option (List ℤ)) (l : List ℤ) (s : List ℕ)
     → 2 ≤ flexible es → g ≡ Some l → Segments es n g s → length l ≡ length es
 given-length es n g l s many e h =
-    ap length (given_is es n g l s many e h) ∙ length-map s pos ∙ FitEach-length es s h.fit
+    ap length (given-is es n g l s many e h) ∙ length-map s pos ∙ FitEach-length es s h.fit
 
 pub given-none : (es : List Entry) (n : ℕ) (g : Option (List ℤ)) (s : List ℕ)
     → 2 ≤ flexible es → g ≡ None → Segments es n g s → ⊥
@@ -213,4 +213,4 @@ pub given-only : (r : Option (ArrayVec ℕ)) (es : List Entry) (n : ℕ) (g : Op
     → (s : List ℕ) → Segments es n g s → IsSomeAnd r (λ v. v.items ≡ s)
 given-only r es n g l t many e read check s h =
     checked-only r es n g t s
-    (naturals_same s t (sym (given_is es n g l s many e h) ∙ read)) check h
+    (naturals-same s t (sym (given-is es n g l s many e h) ∙ read)) check h

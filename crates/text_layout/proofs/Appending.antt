@@ -14,20 +14,20 @@ use Rattle.std.specs.Io.KnownBytes.{Appends}
 use Rattle.irdl_bytes.specs.Outside.{AppendsPrefix}
 
 -- the first piece and then the second are the two
-pub appends_then : (a b c : Option (List ℕ)) (xs ys : List ℕ)
+pub appends-then : (a b c : Option (List ℕ)) (xs ys : List ℕ)
     → Appends a b xs → Appends b c ys → Appends a c (xs ++ ys)
-appends_then None b c xs ys h k = tt
-appends_then (Some x) None c xs ys h k = absurd h
-appends_then (Some x) (Some y) None xs ys h k = absurd k
-appends_then (Some x) (Some y) (Some z) xs ys h k = grind (arith, append_assoc, h, k)
+appends-then None b c xs ys h k = tt
+appends-then (Some x) None c xs ys h k = absurd h
+appends-then (Some x) (Some y) None xs ys h k = absurd k
+appends-then (Some x) (Some y) (Some z) xs ys h k = grind (arith, append_assoc, h, k)
 
 -- a front of the second piece, after the whole first one, is a front of the two
-pub fronts_then : (a b c : Option (List ℕ)) (xs ys zs : List ℕ)
+pub fronts-then : (a b c : Option (List ℕ)) (xs ys zs : List ℕ)
     → Appends a b xs → AppendsPrefix b c ys → AppendsPrefix a c (xs ++ (ys ++ zs))
-fronts_then None b c xs ys zs h k = (0, tt)
-fronts_then (Some x) None c xs ys zs h k = absurd h
-fronts_then (Some x) (Some y) None xs ys zs h k = absurd k.1
-fronts_then (Some x) (Some y) (Some z) xs ys zs h k =
+fronts-then None b c xs ys zs h k = (0, tt)
+fronts-then (Some x) None c xs ys zs h k = absurd h
+fronts-then (Some x) (Some y) None xs ys zs h k = absurd k.1
+fronts-then (Some x) (Some y) (Some z) xs ys zs h k =
     let taken = min k.0 (length ys) in
     let e : take (length xs + min k.0 (length ys)) (xs ++ (ys ++ zs)) ≡ xs ++ take k.0 ys =
     rw (
@@ -38,15 +38,15 @@ fronts_then (Some x) (Some y) (Some z) xs ys zs h k =
     (length xs + min k.0 (length ys), rw e (grind (arith, append_assoc, h, k.1)))
 
 -- after the first i pieces, a front of the next one is a front of them all
-pub front_of_pieces : {P : Type 0} (f : P → List ℕ) (xs : List P) (i : ℕ) (d : P)
+pub front-of-pieces : {P : Type 0} (f : P → List ℕ) (xs : List P) (i : ℕ) (d : P)
     (a b c : Option (List ℕ))
     → i < length xs → Appends a b (flat_map f (take i xs)) → AppendsPrefix b c (f (get_or xs i d))
     → AppendsPrefix a c (flat_map f xs)
-front_of_pieces f xs i d a b c h done next =
+front-of-pieces f xs i d a b c h done next =
     let e : flat_map f xs
     ≡ flat_map f (take i xs) ++ (f (get_or xs i d) ++ flat_map f (drop (suc i) xs)) =
     (ap (flat_map f) (sym (take-append-drop i xs)) ∙ flat_map-append f (take i xs) (drop i xs)) ∙
     ap (λ ys. flat_map f (take i xs) ++ flat_map f ys) (drop-cons xs i d h) in
-    rw e (fronts_then a b c _ _ _ done next)
+    rw e (fronts-then a b c _ _ _ done next)
 
-pub ruleset appending = (appends_then, fronts_then, front_of_pieces)
+pub ruleset appending = (appends-then, fronts-then, front-of-pieces)

@@ -7,23 +7,23 @@ use Rattle.ir_lexer.specs.Spelling.{Text}
 use Rattle.text_layout.specs.Lines.{Row, is_tight, stays_apart, plain_gap}
 
 -- dimensions are tight
-pub tight_dims : (first a b : Class) (text : Text) → is_tight first a text b ≡ false → a ≢ c.Dims
-tight_dims first a b text e is =
+pub tight-dims : (first a b : Class) (text : Text) → is_tight first a text b ≡ false → a ≢ c.Dims
+tight-dims first a b text e is =
     absurd (cc (sym e ∙ ap (λ x. is_tight first x text b) is))
 
-pub empty_tight : (row : Row) (b : Class) (text : Text)
+pub empty-tight : (row : Row) (b : Class) (text : Text)
     → is_tight row.first row.last row.text b ≡ true
     → [] ≡ (if stays_apart row.text text then [] else plain_gap row b)
-empty_tight row b text e = go (stays_apart row.text text)
+empty-tight row b text e = go (stays_apart row.text text)
   where
     go : (apart : Bool) → [] ≡ (if apart then [] else plain_gap row b)
     go true = refl
     go false = rw e refl
 
-pub empty_loose : (row : Row) (b : Class) (text : Text)
+pub empty-loose : (row : Row) (b : Class) (text : Text)
     → is_tight row.first row.last row.text b ≡ false
     → (if stays_apart row.text text then [] else space ∷ [])
     ≡ (if stays_apart row.text text then [] else plain_gap row b)
-empty_loose row b text e = rw e refl
+empty-loose row b text e = rw e refl
 
-pub ruleset gaps = (tight_dims, empty_tight, empty_loose)
+pub ruleset gaps = (tight-dims, empty-tight, empty-loose)

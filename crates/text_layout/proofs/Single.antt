@@ -8,46 +8,46 @@ use Rattle.ir_lexer.specs.Scan.{front}
 use Rattle.ir_lexer.specs.Slice.{Tells}
 use Rattle.ir_lexer.specs.Source.{Source}
 use Rattle.ir_lexer.specs.Spelling.{Text, Spells}
-use Rattle.ir_lexer.specs.Tokens.{Token, Tokens}
+use Rattle.ir_lexer.specs.Tokens.{Token, AreTokens}
 use Rattle.ir_lexer.specs.Written.{NoneLonger, Piece}
-use Rattle.ir_lexer.proofs.Apart.{ends_longest, front_stays, stays_front, pieces_back}
-use Rattle.ir_lexer.proofs.Longest.{is_front}
-use Rattle.ir_lexer.proofs.Machine.{same_class_refl}
-use Rattle.ir_lexer.proofs.Once.{one_list}
-use Rattle.ir_lexer.proofs.Texts.{three_bytes}
+use Rattle.ir_lexer.proofs.Apart.{ends-longest, front-stays, stays-front, pieces-back}
+use Rattle.ir_lexer.proofs.Longest.{is-front}
+use Rattle.ir_lexer.proofs.Machine.{same-class-refl}
+use Rattle.ir_lexer.proofs.Once.{one-list}
+use Rattle.ir_lexer.proofs.Texts.{three-bytes}
 use Rattle.grammar.specs.Looks.{passes, int_word, is_integer_word}
 use Rattle.text_layout.specs.Lines.{stays_apart}
 
 -- the first token of a spelling is all of it
-only_token : (a : Class) (x : Text) (now : Token) (ts : List Token) → Spells a x
-    → Tokens x (now ∷ ts) → now ≡ record { class = a; text = x; place = 0 }
-only_token a x now ts spelled tokens =
+only-token : (a : Class) (x : Text) (now : Token) (ts : List Token) → Spells a x
+    → AreTokens x (now ∷ ts) → now ≡ record { class = a; text = x; place = 0 }
+only-token a x now ts spelled tokens =
     let piece : Piece = record { gap = []; class = a; text = x } in
     let only : Token = record { class = a; text = x; place = 0 } in
     let end : Token = record { class = c.End; text = []; place = 0 + length x + 0 } in
-    let back : Tokens x (only ∷ end ∷ []) = pieces_back (piece ∷ []) [] x 0 (sym (append-nil x))
-    (tt, spelled, ends_longest a x [] spelled tt, tt) in
-    cc (one_list x 0 (now ∷ ts) (only ∷ end ∷ []) tokens back)
+    let back : AreTokens x (only ∷ end ∷ []) = pieces-back (piece ∷ []) [] x 0 (sym (append-nil x))
+    (tt, spelled, ends-longest a x [] spelled tt, tt) in
+    cc (one-list x 0 (now ∷ ts) (only ∷ end ∷ []) tokens back)
 
 -- a source of a word's tokens stands at an integer type exactly where the word names one
-pub reads_integer_word : (x : Text) (s : Source) → Spells c.Word x → Tells s x
+pub reads-integer-word : (x : Text) (s : Source) → Spells c.Word x → Tells s x
     → passes int_word s.now ≡ is_integer_word x
-reads_integer_word x s spelled tells =
-    ap (passes int_word) (only_token c.Word x s.now tells.tokens.0 spelled tells.tokens.2)
-    ∙ ap (λ b. b && is_integer_word x) (same_class_refl c.Word)
+reads-integer-word x s spelled tells =
+    ap (passes int_word) (only-token c.Word x s.now tells.tokens.0 spelled tells.tokens.2)
+    ∙ ap (λ b. b && is_integer_word x) (same-class-refl c.Word)
 
-pub apart_is : (a : Class) (x y : Text) → Spells a x → NoneLonger x y → stays_apart x y ≡ true
-apart_is a x y spelled none =
+pub apart-is : (a : Class) (x y : Text) → Spells a x → NoneLonger x y → stays_apart x y ≡ true
+apart-is a x y spelled none =
     let f = front (x ++ y) in
-    same_numbers _ _ (stays_front a x y f.0 f.1 spelled (is_front (x ++ y)) none)
+    same-numbers _ _ (stays-front a x y f.0 f.1 spelled (is-front (x ++ y)) none)
   where
-    same_numbers : (n m : ℕ) → n ≡ m → nat_eq n m ≡ true
-    same_numbers n m e = grind (arith, e)
+    same-numbers : (n m : ℕ) → n ≡ m → nat_eq n m ≡ true
+    same-numbers n m e = grind (arith, e)
 
-pub is_apart : (a : Class) (x y : Text) → Spells a x → stays_apart x y ≡ true → NoneLonger x y
-is_apart a x y spelled e =
+pub is-apart : (a : Class) (x y : Text) → Spells a x → stays_apart x y ≡ true → NoneLonger x y
+is-apart a x y spelled e =
     let f = front (x ++ y) in
-    front_stays a x y f.0 f.1 spelled (is_front (x ++ y)) (eqb-true _ _ e)
+    front-stays a x y f.0 f.1 spelled (is-front (x ++ y)) (eqb-true _ _ e)
 
 -- ---- for the loop over the second text's first bytes
 
@@ -55,43 +55,43 @@ is_apart a x y spelled e =
 abbrev pub NoneYet : Text → Text → ℕ → Type 0
 NoneYet x y n = (k : ℕ) (class : Class) → 0 < k → k ≤ n → Spells class (x ++ take k y) → ⊥
 
-pub none_yet : (x y : Text) → NoneYet x y 0
-none_yet x y k class more le = absurd (omega arith)
+pub none-yet : (x y : Text) → NoneYet x y 0
+none-yet x y k class more le = absurd (omega arith)
 
-pub none_more : (x y : Text) (n : ℕ) → NoneYet x y n
+pub none-more : (x y : Text) (n : ℕ) → NoneYet x y n
     → ((class : Class) → Spells class (x ++ take (n + 1) y) → ⊥) → NoneYet x y (n + 1)
-none_more x y n none last k class more le spelled = elim (before_or_at k n le) [
+none-more x y n none last k class more le spelled = elim (before-or-at k n le) [
   | inl less ↦ none k class more less spelled
   | inr is ↦ last class (subst (λ (j : ℕ). Spells class (x ++ take j y)) is spelled)
 ]
   where
-    before_or_at : (k n : ℕ) → k ≤ n + 1 → (k ≤ n) ⊎ (k ≡ n + 1)
-    before_or_at k n le = grind arith
+    before-or-at : (k n : ℕ) → k ≤ n + 1 → (k ≤ n) ⊎ (k ≡ n + 1)
+    before-or-at k n le = grind arith
 
-pub one_byte_more : (joined x y : Text) (i d : ℕ) → i < length y → joined ≡ x ++ take i y
+pub one-byte-more : (joined x y : Text) (i d : ℕ) → i < length y → joined ≡ x ++ take i y
     → joined ++ get_or y i d ∷ [] ≡ x ++ take (i + 1) y
-one_byte_more joined x y i d less e =
+one-byte-more joined x y i d less e =
     ap (λ t. t ++ get_or y i d ∷ []) e ∙ append_assoc x (take i y) (get_or y i d ∷ [])
-    ∙ ap (λ t. x ++ t) (sym (ap (λ n. take n y) add_one ∙ take-suc y i d less))
+    ∙ ap (λ t. x ++ t) (sym (ap (λ n. take n y) add-one ∙ take-suc y i d less))
   where
-    add_one : i + 1 ≡ suc i
-    add_one = omega arith
+    add-one : i + 1 ≡ suc i
+    add-one = omega arith
 
-cut_behind : (x y : Text) (m : ℕ) → length x ≤ m → take m (x ++ y) ≡ x ++ take (m - length x) y
-cut_behind x y m le =
+cut-behind : (x y : Text) (m : ℕ) → length x ≤ m → take m (x ++ y) ≡ x ++ take (m - length x) y
+cut-behind x y m le =
     let is : m ≡ length x + (m - length x) = omega arith in
     ap (λ n. take n (x ++ y)) is ∙ take-append-add x y (m - length x)
 
 pub joins : (a class : Class) (x y : Text) (i : ℕ) → Spells a x → 0 < i → i ≤ length (take 3 y)
     → Spells class (x ++ take i (take 3 y)) → false ≡ stays_apart x y
-joins a class x y i spelled more le longer = sym (not_true (stays_apart x y) (λ e.
-    is_apart a x y spelled e (length x + i) class (omega arith)
+joins a class x y i spelled more le longer = sym (not-true (stays_apart x y) (λ e.
+    is-apart a x y spelled e (length x + i) class (omega arith)
     (omega (arith, length-append x y, length-take 3 y))
     (subst (Spells class) (sym (take-append-add x y i ∙ ap (λ t. x ++ t) (sym again))) longer)))
   where
-    not_true : (b : Bool) → (b ≡ true → ⊥) → b ≡ false
-    not_true true f = absurd (f refl)
-    not_true false f = refl
+    not-true : (b : Bool) → (b ≡ true → ⊥) → b ≡ false
+    not-true true f = absurd (f refl)
+    not-true false f = refl
 
     within : i ≤ 3
     within = omega (arith, length-take 3 y)
@@ -99,18 +99,18 @@ joins a class x y i spelled more le longer = sym (not_true (stays_apart x y) (λ
     again : take i (take 3 y) ≡ take i y
     again = take-take i 3 y within
 
-pub no_join : (a : Class) (x y : Text) → Spells a x → a ≢ c.Dims
+pub no-join : (a : Class) (x y : Text) → Spells a x → a ≢ c.Dims
     → NoneYet x (take 3 y) (length (take 3 y)) → true ≡ stays_apart x y
-no_join a x y spelled other none =
-    sym (apart_is a x y spelled (three_bytes a x y spelled other short))
+no-join a x y spelled other none =
+    sym (apart-is a x y spelled (three-bytes a x y spelled other short))
   where
     short : NoneLonger x (take 3 y)
     short m class more le longer =
         none (m - length x) class (omega arith) (omega (arith, length-append x (take 3 y)))
-        (subst (Spells class) (cut_behind x (take 3 y) m (omega arith)) longer)
+        (subst (Spells class) (cut-behind x (take 3 y) m (omega arith)) longer)
 
 -- the texts of the loop are those of the lemmas
-pub spells_with : (class : Class) (joined x front y : Text) (i : ℕ) → joined ≡ x ++ take i front
+pub spells-with : (class : Class) (joined x front y : Text) (i : ℕ) → joined ≡ x ++ take i front
     → front ≡ take 3 y → Spells class joined → Spells class (x ++ take i (take 3 y))
-spells_with class joined x front y i e is spelled =
+spells-with class joined x front y i e is spelled =
     subst (Spells class) (e ∙ ap (λ t. x ++ take i t) is) spelled

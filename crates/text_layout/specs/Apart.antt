@@ -15,7 +15,7 @@ use Rattle.ir_lexer.specs.declared.class.Class.TheVariants as c
 use Rattle.ir_lexer.specs.Spelling.{Text, Spells}
 use Rattle.ir_lexer.specs.Tokens.{Token}
 use Rattle.ir_lexer.specs.Written.{is_exponent, begins_sign}
-use Rattle.text_layout.specs.Lines.{Mark, token, ask, break_line, Row, Line, start, gap_before, line_end, line_after}
+use Rattle.text_layout.specs.Lines.{Mark, token, ask, break_line, Row, Line, first_line, gap_before, line_end, line_after}
 
 -- each token's text spells its class
 abbrev pub AreSpelled : List Mark → Type 0
@@ -35,14 +35,14 @@ may_run_together c.Colon c.ColonColon = true
 may_run_together c.Minus c.Greater = true
 may_run_together _ _ = false
 
-abbrev pub is_float : Class → Bool
-is_float c.Float = true
-is_float _ = false
+abbrev pub is_float_class : Class → Bool
+is_float_class c.Float = true
+is_float_class _ = false
 
 -- the line's last token is a float
 abbrev pub ends_with_float : Option Row → Bool
 ends_with_float None = false
-ends_with_float (Some row) = is_float row.last
+ends_with_float (Some row) = is_float_class row.last
 
 abbrev pub is_empty : Text → Bool
 is_empty [] = true
@@ -72,15 +72,15 @@ keeps_apart exponent line (break_line indent ∷ marks) =
     keeps_apart false (line_after line (break_line indent)) marks
 
 abbrev pub are_apart : List Mark → Bool
-are_apart marks = keeps_apart false start marks
+are_apart marks = keeps_apart false first_line marks
 
 -- behind a token of the class, if there is one, no token is a float, and no two in a row are of
 -- classes that may run together
 abbrev pub clash_never : Option Class → List Mark → Bool
 clash_never last [] = true
-clash_never None (token b text ∷ marks) = not (is_float b) && clash_never (Some b) marks
+clash_never None (token b text ∷ marks) = not (is_float_class b) && clash_never (Some b) marks
 clash_never (Some a) (token b text ∷ marks) =
-    not (is_float b) && (not (may_run_together a b) && clash_never (Some b) marks)
+    not (is_float_class b) && (not (may_run_together a b) && clash_never (Some b) marks)
 clash_never last (ask gap ∷ marks) = clash_never last marks
 clash_never last (break_line indent ∷ marks) = clash_never last marks
 
@@ -101,4 +101,4 @@ tokens_from at line (break_line indent ∷ marks) =
     tokens_from (at + length (line_end line.row)) (line_after line (break_line indent)) marks
 
 abbrev pub tokens_of : List Mark → List Token
-tokens_of marks = tokens_from 0 start marks
+tokens_of marks = tokens_from 0 first_line marks

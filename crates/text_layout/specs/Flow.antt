@@ -5,7 +5,7 @@
 --
 --   Flow                  what went in so far, and what the sink got
 --   Adds f bytes f'       the bytes went in
---   HasCause f bytes e w n
+--   PrintHasCause f bytes e w n
 --                         why an error may come while the bytes go in
 --   Stops f bytes e f'    an error came while the bytes went in, and has its cause
 --   Drains f bytes result w n
@@ -39,19 +39,19 @@ pub record Adds (old : Flow) (bytes : Text) (new : Flow) : Type 0 where
 -- Why an error came while bytes went in, by the bytes that the sink then got, and its count. At a
 -- fault the count rose. At the limit, the text passes it, and the sink has the bytes up to there.
 -- The sink has always got the first bytes of those that it is owed.
-abbrev pub HasCause : Flow → Text → PrintError → Option Text → ℕ → Type 0
-HasCause old bytes WriteFault written faults =
+abbrev pub PrintHasCause : Flow → Text → PrintError → Option Text → ℕ → Type 0
+PrintHasCause old bytes WriteFault written faults =
     Rose old.faults faults × AppendsPrefix old.written written (old.held ++ bytes)
-HasCause old bytes OutputLimit written faults =
+PrintHasCause old bytes OutputLimit written faults =
     (TEXT_LIMIT < old.laid + length bytes)
     × Appends old.written written
     (take (length old.held + (TEXT_LIMIT - old.laid)) (old.held ++ bytes))
-HasCause old bytes OutOfMemory written faults =
+PrintHasCause old bytes OutOfMemory written faults =
     AppendsPrefix old.written written (old.held ++ bytes)
 
 -- an error came while bytes went in
 pub record Stops (old : Flow) (bytes : Text) (e : PrintError) (new : Flow) : Type 0 where
-  pub cause : HasCause old bytes e new.written new.faults
+  pub cause : PrintHasCause old bytes e new.written new.faults
   pub later : old.faults ≤ new.faults
 
 -- The bytes went in as the last ones, and the sink has all that it is owed; or an error came, but
@@ -61,4 +61,4 @@ Drains old bytes (Ok done) written faults =
     Appends old.written written (old.held ++ bytes)
     × (old.laid + length bytes ≤ TEXT_LIMIT) × (old.faults ≤ faults)
 Drains old bytes (Err e) written faults =
-    (e ≢ OutOfMemory) × HasCause old bytes e written faults × (old.faults ≤ faults)
+    (e ≢ OutOfMemory) × PrintHasCause old bytes e written faults × (old.faults ≤ faults)

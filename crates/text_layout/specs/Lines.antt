@@ -43,8 +43,8 @@ pub record Line : Type 0 where
   pub gap : Gap
 
 -- where a layout begins
-abbrev pub start : Line
-start = record { indent = 0; row = None; gap = gap.Plain }
+abbrev pub first_line : Line
+first_line = record { indent = 0; row = None; gap = gap.Plain }
 
 -- ---- the gap between two tokens of one line
 
@@ -173,4 +173,4 @@ text_of line (mark ∷ marks) = bytes_of line mark ++ text_of (line_after line m
 
 -- the bytes of a list of marks, and the end of the last line
 abbrev pub layout : List Mark → Text
-layout marks = text_of start marks ++ line_end (line_behind start marks).row
+layout marks = text_of first_line marks ++ line_end (line_behind first_line marks).row

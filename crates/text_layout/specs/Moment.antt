@@ -15,7 +15,7 @@ use Rattle.ir_lexer.specs.Spelling.{Text}
 use Rattle.text_layout.specs.declared.error.PrintError.{PrintError}
 use Rattle.text_layout.specs.declared.error.PrintError.TheVariants.{WriteFault, OutputLimit, OutOfMemory}
 use Rattle.text_layout.specs.Flow.{Flow, Adds, Stops, Drains}
-use Rattle.text_layout.specs.Lines.{Mark, Line, start, line_end, line_behind, text_of}
+use Rattle.text_layout.specs.Lines.{Mark, Line, first_line, line_end, line_behind, text_of}
 
 pub record Moment : Type 0 where
   -- where the present line stands
@@ -28,7 +28,7 @@ pub record Moment : Type 0 where
 -- a new layout, over a sink that got these bytes and failed so often
 abbrev pub first_moment : Option Text → ℕ → Moment
 first_moment written faults = record {
-  line = start;
+  line = first_line;
   stopped = None;
   flow = record { laid = 0; held = []; written = written; faults = faults };
 }

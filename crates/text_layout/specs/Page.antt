@@ -5,7 +5,7 @@
 use Rattle.std.specs.Prelude.{ℕ, Option, None, []}
 use Rattle.ir_lexer.specs.Spelling.{Text}
 use Rattle.text_layout.specs.declared.error.PrintError.{PrintError}
-use Rattle.text_layout.specs.Lines.{Line, start}
+use Rattle.text_layout.specs.Lines.{Line, first_line}
 use Rattle.text_layout.specs.Moment.{Moment}
 
 pub record Page : Type 0 where
@@ -19,7 +19,7 @@ pub record Page : Type 0 where
   pub stopped : Option PrintError
 
 abbrev pub empty_page : Page
-empty_page = record { line = start; laid = 0; held = []; stopped = None }
+empty_page = record { line = first_line; laid = 0; held = []; stopped = None }
 
 abbrev pub moment_of : Page → Option Text → ℕ → Moment
 moment_of page written faults = record {

@@ -4,7 +4,7 @@
 ghost use Rattle.std.specs.Prelude.{◌≡◌, ◌↔◌, ℕ, List, [], ◌++◌, Result, Ok, Err, Option, true, false};
 ghost use Rattle.ir_lexer.specs.declared.class.Class.{Class};
 ghost use Rattle.ir_lexer.specs.Spelling.{Text, Spells};
-ghost use Rattle.ir_lexer.specs.Tokens.{Tokens};
+ghost use Rattle.ir_lexer.specs.Tokens.{AreTokens};
 ghost use Rattle.ir_lexer.specs.Written.{NoneLonger};
 ghost use Rattle.text_layout.specs.declared.error.PrintError.{PrintError};
 ghost use Rattle.text_layout.specs.Apart.{AreSpelled, are_apart, may_run_together, never_clash, tokens_of};
@@ -36,7 +36,7 @@ pub fn adds_up()
 /// order, at their places, and then the end.
 pub fn reads_back()
     ensures tokens { (marks : List Mark) → AreSpelled marks → are_apart marks ≡ true →
-        Tokens (layout marks) (tokens_of marks) }
+        AreTokens (layout marks) (tokens_of marks) }
     // Classes alone may tell that it is so.
     ensures classes { (marks : List Mark) → never_clash marks ≡ true → are_apart marks ≡ true }
     // Each gap rule that puts no space keeps two spellings apart, whatever follows, but for the six

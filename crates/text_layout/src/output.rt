@@ -5,7 +5,7 @@ ghost use Rattle.std.specs.Io.KnownBytes.{Appends};
 ghost use Rattle.irdl_bytes.specs.Outside.{Rose, AppendsPrefix};
 ghost use Rattle.ir_lexer.specs.declared.lexer.TheConstants.{TEXT_LIMIT};
 ghost use Rattle.ir_lexer.specs.Signs.{line_feed};
-ghost use Rattle.text_layout.specs.Flow.{Adds, HasCause, Stops, Drains};
+ghost use Rattle.text_layout.specs.Flow.{Adds, PrintHasCause, Stops, Drains};
 ghost use Rattle.text_layout.specs.OutputFlow.{flow_of};
 ghost use Rattle.text_layout.specs.PageInside.{HasRoom};
 
@@ -159,7 +159,7 @@ impl Output {
     fn cut<S: Sink>(&self, sink: &mut S, gap: &[u8], text: &[u8]) -> PrintError
         requires within { self.now.laid ≤ TEXT_LIMIT }
         requires beyond { TEXT_LIMIT < self.now.laid + length (gap.now ++ text.now) }
-        ensures cause { HasCause (flow_of self.now (S.written sink.old) (S.faults sink.old))
+        ensures cause { PrintHasCause (flow_of self.now (S.written sink.old) (S.faults sink.old))
             (gap.now ++ text.now) result (S.written sink.new) (S.faults sink.new) }
         ensures memory { result ≢ PrintError.OutOfMemory }
         ensures later { S.faults sink.old ≤ S.faults sink.new }

@@ -1,7 +1,7 @@
 use Rattle.std.proofs.Common.{◌≡◌, ◌<ℤ◌, ◌∙◌, arith, get_or, pos, map}
 use Rattle.std.proofs.lemmas.Grind.{common_steps}
 use Rattle.std.proofs.lemmas.Int.{ints}
-use Rattle.segment_match.proofs.Unique.{negative, naturals_same}
+use Rattle.segment_match.proofs.Unique.{negative, naturals-same}
 use Rattle.segment_match.proofs.read_given.Goals as goal
 
 pub returns-then-item-lt0-clause-only : goal.returns-then-item-lt0-clause-only
@@ -14,4 +14,4 @@ pub returns-clause-only : goal.returns-clause-only
 returns-clause-only c =
     let read : map pos c.loop-item.sizes.items ≡ c.args.given.now =
     grind (arith, common_steps) in
-    λ s e. naturals_same _ _ (read ∙ e)
+    λ s e. naturals-same _ _ (read ∙ e)

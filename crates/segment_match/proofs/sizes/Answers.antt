@@ -1,6 +1,6 @@
 use Rattle.std.proofs.Common.{◌<◌, ◌≤◌, ap, arith, option_copied}
 use Rattle.segment_match.specs.Spread.{flexible}
-use Rattle.segment_match.proofs.Unique.{few-some, few-only, given-none, given-length, given_is}
+use Rattle.segment_match.proofs.Unique.{few-some, few-only, given-none, given-length, given-is}
 use Rattle.segment_match.proofs.Unique.{given-only}
 use Rattle.segment_match.proofs.sizes.Goals as goal
 
@@ -30,7 +30,7 @@ pub returns-in_err-read_given-clause-only : goal.returns-in_err-read_given-claus
 returns-in_err-read_given-clause-only c =
     let many : 2 ≤ flexible c.args.entries.now = omega arith in
     λ s h. absurd (c.in_err-read_given.ensures.only s
-    (given_is _ _ _ _ s many (ap option_copied c.in_ok-list.was) h))
+    (given-is _ _ _ _ s many (ap option_copied c.in_ok-list.was) h))
 
 pub returns-clause-only : goal.returns-clause-only
 returns-clause-only c =

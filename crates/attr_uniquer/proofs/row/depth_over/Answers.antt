@@ -3,7 +3,7 @@ use Rattle.std.proofs.lemmas.Grind.{common_steps}
 use Rattle.attr_value.specs.declared.head.ValueId.{ValueId}
 use Rattle.attr_uniquer.specs.Rows.{values}
 use Rattle.attr_uniquer.proofs.Grown.{length-values}
-use Rattle.attr_uniquer.proofs.Shallow.{next_known, next_depth, shallow_rows}
+use Rattle.attr_uniquer.proofs.Shallow.{next-known, next-depth, shallow-rows}
 use Rattle.attr_uniquer.proofs.row.depth_over.Goals as goal
 
 pub loop-kid-preserved : goal.loop-kid-preserved
@@ -13,10 +13,10 @@ loop-kid-preserved c =
     let rows = c.args.rows.now in
     let none : ValueId = record { 0 = 0 } in
     let within = c.loop-kid-test.true in
-    let known = next_known _ kids i none within c.loop-kid.invariant.known in
-    let small = shallow_rows rows c.requires.sound (get_or kids i none).0
+    let known = next-known _ kids i none within c.loop-kid.invariant.known in
+    let small = shallow-rows rows c.requires.sound (get_or kids i none).0
     (omega (arith, length-values rows, known.0)) in
-    let deep = next_depth (values rows) kids i none within in
+    let deep = next-depth (values rows) kids i none within in
     let larger : c.max-most.result ≡ max c.loop-kid.most c.row_at.result.now.depth =
     grind (arith, common_steps) in
     record {

@@ -10,21 +10,21 @@ use Rattle.constraint_solver.proofs.Loops.{each-more, each-forced, each-refuted}
 use Rattle.constraint_solver.proofs.assign.assign_params.Goals as goal
 
 -- the variable of the parameter at a place
-var_is : (params : List Entry) (i : ℕ) (param : Entry) → i < length params
+var-is : (params : List Entry) (i : ℕ) (param : Entry) → i < length params
     → param ≡ get_or params i param → param.var ≡ var_at (vars_of params) i
-var_is params i param within is = ap (λ p. p.var) is ∙ param-at params i param within
+var-is params i param within is = ap (λ p. p.var) is ∙ param-at params i param within
 
-within_vars : (params : List Entry) (i : ℕ) → i < length params → i < length (vars_of params)
-within_vars params i within = omega (arith, length-vars params, within)
+within-vars : (params : List Entry) (i : ℕ) → i < length params → i < length (vars_of params)
+within-vars params i within = omega (arith, length-vars params, within)
 
 pub assign-requires-clause-below : goal.assign-requires-clause-below
 assign-requires-clause-below c =
     let params = c.args.params.now in
     subst (λ v. v.0 < c.args.n)
-    (sym (var_is params c.loop-i.i c.index-params-i.result c.loop-i-test.true
+    (sym (var-is params c.loop-i.i c.index-params-i.result c.loop-i-test.true
     c.index-params-i.is))
     (all-at (λ v. v.0 < c.args.n) (vars_of params) c.loop-i.i (record { 0 = 0 })
-    (within_vars params c.loop-i.i c.loop-i-test.true) c.requires.below)
+    (within-vars params c.loop-i.i c.loop-i-test.true) c.requires.below)
 
 pub assign-requires-clause-id : goal.assign-requires-clause-id
 assign-requires-clause-id c = known-at (length c.args.u.now) c.args.kids.now c.loop-i.i
@@ -38,11 +38,11 @@ loop-i-preserved c =
       known = c.if-not-assign.ensures.known refl;
       filled = each-more u c.args.n old (vars_of c.args.params.now) c.args.kids.now
           (assigned u c.loop-i.slots.ids) (assigned u c.assign.new.slots.ids) c.loop-i.i
-          (within_vars c.args.params.now c.loop-i.i c.loop-i-test.true) c.loop-i.invariant.filled
+          (within-vars c.args.params.now c.loop-i.i c.loop-i-test.true) c.loop-i.invariant.filled
           (subst (λ v. Forced c.args.n (assigned u c.loop-i.slots.ids)
           (assigned u c.assign.new.slots.ids)
           (λ a. Has a v (at u (id_at c.args.kids.now c.loop-i.i).0)))
-          (var_is c.args.params.now c.loop-i.i c.index-params-i.result c.loop-i-test.true
+          (var-is c.args.params.now c.loop-i.i c.index-params-i.result c.loop-i-test.true
           c.index-params-i.is) (c.if-not-assign.ensures.forced refl));
     }
 
@@ -52,10 +52,10 @@ returns-then-not-assign-clause-refuted c = λ is.
     let old = assigned u c.args.slots.now.ids in
     each-refuted u c.args.n old (vars_of c.args.params.now) c.args.kids.now
     (assigned u c.loop-i.slots.ids) c.loop-i.i
-    (within_vars c.args.params.now c.loop-i.i c.loop-i-test.true) c.loop-i.invariant.filled
+    (within-vars c.args.params.now c.loop-i.i c.loop-i-test.true) c.loop-i.invariant.filled
     (subst (λ v. Refuted (assigned u c.loop-i.slots.ids)
     (λ a. Has a v (at u (id_at c.args.kids.now c.loop-i.i).0)))
-    (var_is c.args.params.now c.loop-i.i c.index-params-i.result c.loop-i-test.true
+    (var-is c.args.params.now c.loop-i.i c.index-params-i.result c.loop-i-test.true
     c.index-params-i.is) (c.if-not-assign.ensures.refuted refl))
 
 pub returns-clause-forced : goal.returns-clause-forced

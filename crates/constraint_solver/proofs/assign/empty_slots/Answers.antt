@@ -1,6 +1,6 @@
 use Rattle.std.specs.declared.option.Option.TheVariants.{None}
-use Rattle.constraint_solver.proofs.Given.{get_or-replicate}
+use Rattle.constraint_solver.proofs.Given.{get-or-replicate}
 use Rattle.constraint_solver.proofs.assign.empty_slots.Goals as goal
 
 pub returns : goal.returns
-returns c = λ v. get_or-replicate 64 None v
+returns c = λ v. get-or-replicate 64 None v

@@ -7,14 +7,14 @@ use Rattle.dialect_defs.specs.Assignments.{HaveEach}
 use Rattle.dialect_defs.specs.Goodness.{vars_of}
 use Rattle.native_predicate.specs.Lists.{tests}
 use Rattle.constraint_solver.specs.Roots.{assigned}
-use Rattle.constraint_solver.proofs.Filled.{have-lengths, length-kids_at, length-vars}
+use Rattle.constraint_solver.proofs.Filled.{have-lengths, length-kids-at, length-vars}
 use Rattle.constraint_solver.proofs.Found.{found-nothing, found-none, found-meets, found-has}
 use Rattle.constraint_solver.proofs.Settled.{each-grows}
 use Rattle.constraint_solver.proofs.good.is_instance_of.Goals as goal
 
-true_unless : (b : Bool) → (b ≡ false → ⊥) → IsTrue b
-true_unless true never = refl
-true_unless false never = absurd (never refl)
+true-unless : (b : Bool) → (b ≡ false → ⊥) → IsTrue b
+true-unless true never = refl
+true-unless false never = absurd (never refl)
 
 pub returns-then-params-kids : goal.returns-then-params-kids
 returns-then-params-kids g c = (
@@ -23,7 +23,7 @@ returns-then-params-kids g c = (
       absurd (c.if-params-kids.true (ap length c.as_slice-params.ensures
       ∙ sym (length-vars c.args.d.now.params)
       ∙ have-lengths instance.assignment (vars_of c.args.d.now.params) _ instance.params
-      ∙ length-kids_at c.args.u.now c.args.kids.now)),
+      ∙ length-kids-at c.args.u.now c.args.kids.now)),
 )
 
 pub returns-then-not-assign_params : goal.returns-then-not-assign_params
@@ -66,7 +66,7 @@ returns g c =
             (c.if-not-assign_params.ensures.forced refl) ids (firsts is) same
             (c.solve_below.ensures.solved is) (λ a b. each-grows a b vars kids));
       },
-      λ instance. true_unless c.solve_below.result (λ is.
+      λ instance. true-unless c.solve_below.result (λ is.
           found-none u says c.args.d.now.body n c.empty_slots-slots.result.ids
           c.empty_slots-slots.ensures (λ a. HaveEach a vars kids) mid
           (c.if-not-assign_params.ensures.forced refl) (c.solve_below.ensures.refuted is)

@@ -1,7 +1,7 @@
 use Rattle.std.proofs.Common.{◌≡◌, ◌∙◌, ◌<◌, ap, sym, subst, refl, length}
 use Rattle.std.specs.List.{AllByRecursion}
 use Rattle.native_predicate.specs.Lists.{tests}
-use Rattle.dialect_defs.specs.Assignments.{Meets}
+use Rattle.dialect_defs.specs.Assignments.{MeetsBody}
 use Rattle.constraint_solver.specs.Roots.{assigned, HasRoots, AreKnownIds}
 use Rattle.constraint_solver.proofs.Found.{found-nothing, found-none, found-meets, found-has}
 use Rattle.constraint_solver.proofs.Found.{known-take, roots-grow}
@@ -35,7 +35,7 @@ returns-then-solve_below-clause-meets g c =
     let says = tests (λ p. (g.dyn-1.0.entry p.0).1.property p.1) c.args.natives.now in
     let same : length c.as_slice-n.result.now ≡ length c.args.body.now.vars =
     ap length c.as_slice-n.ensures in
-    subst (λ ids. Meets u says c.args.body.now (assigned u ids)) (sym c.of_first.ensures.ids)
+    subst (λ ids. MeetsBody u says c.args.body.now (assigned u ids)) (sym c.of_first.ensures.ids)
     (found-meets u says c.args.body.now (length c.as_slice-n.result.now)
     c.empty_slots-slots.result.ids c.empty_slots-slots.ensures (HasRoots u c.args.roots.now)
     (assigned u c.assign_roots.new.slots.ids) (c.if-not-assign_roots.ensures.forced refl)

@@ -1,7 +1,7 @@
-use Rattle.dialect_registry.proofs.Firsts.{first_either}
+use Rattle.dialect_registry.proofs.Firsts.{first-either}
 use Rattle.dialect_registry.proofs.judge.judge_dialect.Goals as goal
 
 pub returns : goal.returns
 returns c = rw c.earlier.ensures
-    (first_either _ _ c.in_ok-names.names c.in_ok-bodies.bodies c.in_ok-names.ensures
+    (first-either _ _ c.in_ok-names.names c.in_ok-bodies.bodies c.in_ok-names.ensures
     c.in_ok-bodies.ensures)

@@ -1,12 +1,12 @@
 use Rattle.std.proofs.Common.{rules}
-use Rattle.grammar.proofs.Runs.{took_ok, took_err, took_exit}
+use Rattle.grammar.proofs.Runs.{took-ok, took-err, took-exit}
 use Rattle.generic_syntax.specs.Names.{name_of}
 use Rattle.generic_syntax.proofs.name.read_name.Goals as goal
 
 pub returns-in_err-expect : goal.returns-in_err-expect
 returns-in_err-expect g c =
-    took_exit c.from_residual-in_err-expect.ensures (took_err c.in_err-expect.ensures.took)
+    took-exit c.from_residual-in_err-expect.ensures (took-err c.in_err-expect.ensures.took)
 
 pub returns : goal.returns
 unfolding name_of
-returns g c = took_ok name_of (search rules) c.in_ok-expect.ensures.took
+returns g c = took-ok name_of (search rules) c.in_ok-expect.ensures.took

@@ -1,7 +1,7 @@
 use Rattle.std.proofs.Common.{◌≡◌, true, false, rules, refl}
 use Rattle.grammar.specs.Looks.{passes, any_of}
-use Rattle.grammar.proofs.Meet.{before_end}
-use Rattle.grammar.proofs.Runs.{took_token, took_refused, took_failed, took_exit, past_exit}
+use Rattle.grammar.proofs.Meet.{before-end}
+use Rattle.grammar.proofs.Runs.{took-token, took-refused, took-failed, took-exit, past-exit}
 use Rattle.grammar.proofs.step.expect.Goals as goal
 
 pub returns-then-not-is_class : goal.returns-then-not-is_class
@@ -9,7 +9,7 @@ returns-then-not-is_class g c =
     let now = (g.T.TokenSource.state c.args.t.now).now in
     let failed : passes (any_of c.args.kind) now ≡ false = search rules in
     record {
-      took = took_refused failed c.refused.ensures;
+      took = took-refused failed c.refused.ensures;
       refused = rw c.refused.ensures (failed, refl, refl);
       memory = λ e. absurd (cc (c.refused.ensures, e));
     }
@@ -19,8 +19,8 @@ returns-in_err-advance g c =
     let s = g.T.TokenSource.state c.args.t.now in
     let passed : passes (any_of c.args.kind) s.now ≡ true = search rules in
     record {
-      took = took_exit c.from_residual.ensures (took_failed c.in_err-advance.ensures);
-      refused = past_exit (passes (any_of c.args.kind)) s _ _ c.from_residual.ensures passed;
+      took = took-exit c.from_residual.ensures (took-failed c.in_err-advance.ensures);
+      refused = past-exit (passes (any_of c.args.kind)) s _ _ c.from_residual.ensures passed;
       memory = λ e. c.in_err-advance.ensures.stops;
     }
 
@@ -28,9 +28,9 @@ pub returns : goal.returns
 returns g c =
     let now = (g.T.TokenSource.state c.args.t.now).now in
     let passed : passes (any_of c.args.kind) now ≡ true = search rules in
-    let other = before_end (any_of c.args.kind) now passed c.requires in
+    let other = before-end (any_of c.args.kind) now passed c.requires in
     record {
-      took = took_token passed (g.met.T.TokenSource.ends _) other refl c.in_ok-advance.ensures;
+      took = took-token passed (g.met.T.TokenSource.ends _) other refl c.in_ok-advance.ensures;
       refused = passed;
       memory = λ e. absurd (cc);
     }

@@ -1,6 +1,6 @@
 use Rattle.std.proofs.Common.{ap}
 use Rattle.ir_lexer.specs.Scan.{step, next}
-use Rattle.ir_lexer.proofs.Machine.{step_within}
+use Rattle.ir_lexer.proofs.Machine.{step-within}
 use Rattle.ir_lexer.proofs.state.step.Goals as goal
 
 pub returns-clause-value : goal.returns-clause-value
@@ -10,4 +10,4 @@ returns-clause-value c = ap (next c.args.state) c.column.ensures.value
 pub returns-clause-within : goal.returns-clause-within
 unfolding step
 returns-clause-within c =
-    rw c.column.ensures.value (step_within c.args.state c.args.byte c.requires)
+    rw c.column.ensures.value (step-within c.args.state c.args.byte c.requires)

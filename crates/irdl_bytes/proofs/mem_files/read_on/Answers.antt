@@ -4,7 +4,7 @@ use Rattle.std.specs.Prelude.{drop}
 use Rattle.irdl_bytes.specs.declared.mem_file.MemFile.{MemFile}
 use Rattle.irdl_bytes.specs.MemFiles.{rest_of}
 use Rattle.irdl_bytes.specs.OpenAt.{opened}
-use Rattle.irdl_bytes.proofs.OpenFiles.{rest_is, reads_told}
+use Rattle.irdl_bytes.proofs.OpenFiles.{rest-is, reads-told}
 use Rattle.irdl_bytes.proofs.mem_files.read_on.Goals as goal
 
 -- the slice that is copied from has the bytes of the open file
@@ -16,7 +16,7 @@ rest : (c : goal.After-cursor-2-1) →
     rest_of c.args.files.now (opened c.args.files.now c.args.cursor.now) ≡
     drop c.in-Some.cursor.place c.as_slice.result.now
 rest c =
-    rest_is c.args.files.now c.args.cursor.now c.in-Some.cursor c.index-files-cursor.result
+    rest-is c.args.files.now c.args.cursor.now c.in-Some.cursor c.index-files-cursor.result
     c.in-Some.is c.requires.first c.index-files-cursor.is ∙
     ap (drop c.in-Some.cursor.place) (sym (bytes c))
 
@@ -28,7 +28,7 @@ returns-clause-front c = rw (rest c) c.copy_from-count.ensures.front
 
 pub returns-clause-told : goal.returns-clause-told
 returns-clause-told c =
-    reads_told c.args.files.now c.args.cursor.now c.in-Some.cursor c.index-files-cursor.result
+    reads-told c.args.files.now c.args.cursor.now c.in-Some.cursor c.index-files-cursor.result
     c.in-Some.is c.requires.first c.index-files-cursor.is
     c.copy_from-count.result _ c.copy_from-count.new.into c.requires.room
     (rw (bytes c) at c.copy_from-count.ensures.count)

@@ -1,6 +1,6 @@
 -- A piece moves from what comes to what was read.
 use Rattle.std.proofs.Common.{◌≡◌, ◌++◌, take, rules}
-use Rattle.irdl_bytes.proofs.Reading.{reading_more}
+use Rattle.irdl_bytes.proofs.Reading.{reading-more}
 use Rattle.irdl_bytes.proofs.whole.read_whole.Goals as goal
 
 pub loop-count-preserved : goal.loop-count-preserved
@@ -13,6 +13,6 @@ loop-count-preserved g c = record {
   reading =
       let grown : c.extend_from_slice.new.self.items ≡
       c.loop-count.bytes.items ++ take c.in-Ok.count c.read.new.into = search rules in
-      rw grown (reading_more _ _ _ _ _ c.in-Ok.count c.read.new.into c.loop-count.invariant.reading
+      rw grown (reading-more _ _ _ _ _ c.in-Ok.count c.read.new.into c.loop-count.invariant.reading
       c.in-Ok.ensures.within (rw c.loop-count.invariant.same_map at c.in-Ok.ensures.bytes));
 }

@@ -1,24 +1,24 @@
 use Rattle.std.proofs.Common.{refl, sym, ◌∙◌}
-use Rattle.grammar.proofs.FlatReads.{flat_fits}
-use Rattle.grammar.proofs.Repeats.{goes_on, goes_end, goes_err, goes_memory}
+use Rattle.grammar.proofs.FlatReads.{flat-fits}
+use Rattle.grammar.proofs.Repeats.{goes_on, goes-end, goes-err, goes-memory}
 use Rattle.grammar.proofs.Runs.{exit}
 use Rattle.irdl_ops.proofs.read.constraints.Goals as goal
 
 pub each-preserved : goal.each-preserved
 each-preserved g c = let begins = sym c.is_class.ensures ∙ c.each-test.true in
     rw c.in_ok-push.ensures.ok
-    (goes_on flat_fits refl (rw begins refl) c.each.invariant c.in_ok-constraint.ensures)
+    (goes_on flat-fits refl (rw begins refl) c.each.invariant c.in_ok-constraint.ensures)
 
 pub returns-in_err-constraint : goal.returns-in_err-constraint
 returns-in_err-constraint g c = let begins = sym c.is_class.ensures ∙ c.each-test.true in
     exit c.from_residual.ensures
-    (goes_err (rw begins refl) c.each.invariant c.in_err-constraint.ensures)
+    (goes-err (rw begins refl) c.each.invariant c.in_err-constraint.ensures)
 
 pub returns-in_err-push : goal.returns-in_err-push
 returns-in_err-push g c = let begins = sym c.is_class.ensures ∙ c.each-test.true in
     exit c.from_residual-in_err-push.ensures
-    (goes_memory flat_fits refl (rw begins refl) c.each.invariant c.in_ok-constraint.ensures)
+    (goes-memory flat-fits refl (rw begins refl) c.each.invariant c.in_ok-constraint.ensures)
 
 pub returns : goal.returns
 returns g c = let ends = sym c.is_class.ensures ∙ c.each-test.false in
-    goes_end (rw ends refl) c.each.invariant
+    goes-end (rw ends refl) c.each.invariant

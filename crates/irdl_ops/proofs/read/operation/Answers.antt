@@ -1,35 +1,35 @@
-use Rattle.grammar.proofs.Runs.{exit, at_tok, both_ok, both_first, both_second}
+use Rattle.grammar.proofs.Runs.{exit, at-tok, both-ok, both-first, both-second}
 use Rattle.irdl_ops.proofs.read.operation.Goals as goal
 
 pub returns-in_err-expect_word : goal.returns-in_err-expect_word
 returns-in_err-expect_word g c =
-    exit c.from_residual.ensures (both_first (at_tok c.in_err-expect_word.ensures.took))
+    exit c.from_residual.ensures (both-first (at-tok c.in_err-expect_word.ensures.took))
 
 pub returns-in_err-name : goal.returns-in_err-name
 returns-in_err-name g c = exit c.from_residual-in_err-name.ensures
-    (both_second (at_tok c.in_ok-expect_word.ensures.took)
-    (both_first (at_tok c.in_err-name.ensures)))
+    (both-second (at-tok c.in_ok-expect_word.ensures.took)
+    (both-first (at-tok c.in_err-name.ensures)))
 
 pub returns-in_err-expect : goal.returns-in_err-expect
 returns-in_err-expect g c = exit c.from_residual-in_err-expect.ensures
-    (both_second (at_tok c.in_ok-expect_word.ensures.took)
-    (both_second (at_tok c.in_ok-name.ensures) (both_first (at_tok c.in_err-expect.ensures.took))))
+    (both-second (at-tok c.in_ok-expect_word.ensures.took)
+    (both-second (at-tok c.in_ok-name.ensures) (both-first (at-tok c.in_err-expect.ensures.took))))
 
 pub returns-in_err-statements : goal.returns-in_err-statements
 returns-in_err-statements g c = exit c.from_residual-in_err-statements.ensures
-    (both_second (at_tok c.in_ok-expect_word.ensures.took)
-    (both_second (at_tok c.in_ok-name.ensures)
-    (both_second (at_tok c.in_ok-expect.ensures.took) (both_first c.in_err-statements.ensures))))
+    (both-second (at-tok c.in_ok-expect_word.ensures.took)
+    (both-second (at-tok c.in_ok-name.ensures)
+    (both-second (at-tok c.in_ok-expect.ensures.took) (both-first c.in_err-statements.ensures))))
 
 pub returns-in_err-expect-2 : goal.returns-in_err-expect-2
 returns-in_err-expect-2 g c = exit c.from_residual-in_err-expect-2.ensures
-    (both_second (at_tok c.in_ok-expect_word.ensures.took)
-    (both_second (at_tok c.in_ok-name.ensures)
-    (both_second (at_tok c.in_ok-expect.ensures.took)
-    (both_second c.in_ok-statements.ensures (at_tok c.in_err-expect-2.ensures.took)))))
+    (both-second (at-tok c.in_ok-expect_word.ensures.took)
+    (both-second (at-tok c.in_ok-name.ensures)
+    (both-second (at-tok c.in_ok-expect.ensures.took)
+    (both-second c.in_ok-statements.ensures (at-tok c.in_err-expect-2.ensures.took)))))
 
 pub returns : goal.returns
-returns g c = both_ok (at_tok c.in_ok-expect_word.ensures.took)
-    (both_ok (at_tok c.in_ok-name.ensures)
-    (both_ok (at_tok c.in_ok-expect.ensures.took)
-    (both_ok c.in_ok-statements.ensures (at_tok c.in_ok-expect-2.ensures.took))))
+returns g c = both-ok (at-tok c.in_ok-expect_word.ensures.took)
+    (both-ok (at-tok c.in_ok-name.ensures)
+    (both-ok (at-tok c.in_ok-expect.ensures.took)
+    (both-ok c.in_ok-statements.ensures (at-tok c.in_ok-expect-2.ensures.took))))

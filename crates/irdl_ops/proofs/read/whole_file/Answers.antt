@@ -1,14 +1,14 @@
-use Rattle.grammar.proofs.Wholes.{whole_ok, whole_at, whole_err, whole_exit}
+use Rattle.grammar.proofs.Wholes.{whole-ok, whole-at, whole-err, whole-exit}
 use Rattle.irdl_ops.proofs.read.whole_file.Goals as goal
 
 pub returns-in_err-defs-clause-whole : goal.returns-in_err-defs-clause-whole
 returns-in_err-defs-clause-whole g c =
-    whole_exit c.from_residual.ensures (whole_err c.in_err-defs.ensures)
+    whole-exit c.from_residual.ensures (whole-err c.in_err-defs.ensures)
 
 pub returns-in_err-expect_end-clause-whole : goal.returns-in_err-expect_end-clause-whole
 returns-in_err-expect_end-clause-whole g c =
-    whole_exit c.from_residual-in_err-expect_end.ensures
-    (whole_at c.in_ok-defs.ensures c.in_err-expect_end.ensures)
+    whole-exit c.from_residual-in_err-expect_end.ensures
+    (whole-at c.in_ok-defs.ensures c.in_err-expect_end.ensures)
 
 pub returns-clause-whole : goal.returns-clause-whole
-returns-clause-whole g c = whole_ok c.in_ok-defs.ensures c.in_ok-expect_end.ensures
+returns-clause-whole g c = whole-ok c.in_ok-defs.ensures c.in_ok-expect_end.ensures

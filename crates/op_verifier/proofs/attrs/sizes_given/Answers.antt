@@ -3,7 +3,7 @@ use Rattle.attr_value.specs.Ids.{at}
 use Rattle.attr_value.specs.Values.{Value}
 use Rattle.attr_value.specs.declared.head.ValueId.{ValueId}
 use Rattle.dialect_defs.specs.Operations.{given_sizes, sizes_of_head}
-use Rattle.op_verifier.proofs.Found.{attr_at-seen, key-known}
+use Rattle.op_verifier.proofs.Found.{attr-at-seen, key-known}
 use Rattle.op_verifier.proofs.attrs.sizes_given.Goals as goal
 
 pub returns-in_err-id : goal.returns-in_err-id
@@ -11,7 +11,7 @@ returns-in_err-id c =
     ap option_copied c.from_residual.ensures
     ∙ ap (λ o. given_sizes (option_map (λ (id : ValueId). at c.args.u.now id.0) o))
     (sym c.in_err-id.was ∙ c.attribute.ensures)
-    ∙ ap given_sizes (sym (attr_at-seen c.args.u.now c.args.row.now.keys
+    ∙ ap given_sizes (sym (attr-at-seen c.args.u.now c.args.row.now.keys
     c.args.row.now.values c.args.key.now))
 
 pub view-requires : goal.view-requires
@@ -25,5 +25,5 @@ returns c =
     ∙ ap (λ (v : Value). sizes_of_head v.head) (sym c.view.ensures.value)
     ∙ ap (λ o. given_sizes (option_map (λ (id : ValueId). at c.args.u.now id.0) o))
     (sym c.in_ok-id.was ∙ c.attribute.ensures)
-    ∙ ap given_sizes (sym (attr_at-seen c.args.u.now c.args.row.now.keys
+    ∙ ap given_sizes (sym (attr-at-seen c.args.u.now c.args.row.now.keys
     c.args.row.now.values c.args.key.now))

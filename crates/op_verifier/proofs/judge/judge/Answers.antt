@@ -1,10 +1,10 @@
 use Rattle.std.proofs.Common.{◌∙◌, ap, refl, length, arith}
 use Rattle.native_predicate.specs.Lists.{tests}
 use Rattle.constraint_solver.specs.Roots.{HasRoots}
-use Rattle.dialect_defs.specs.Assignments.{Meets}
+use Rattle.dialect_defs.specs.Assignments.{MeetsBody}
 use Rattle.dialect_defs.specs.Operations.{MeetsDefinition}
 use Rattle.ir_store.specs.Numbering.{ops_in}
-use Rattle.op_verifier.specs.Seen.{seen}
+use Rattle.op_verifier.specs.Seen.{operation_seen}
 use Rattle.op_verifier.specs.Types.{ids_of}
 use Rattle.op_verifier.proofs.RegionSteps.{an-element}
 use Rattle.op_verifier.proofs.Judging.{refused, solved, unsolved, roots-sound, decided}
@@ -16,7 +16,7 @@ returns-then-not-ask_parts g c =
     λ x e. (
       λ yes. absurd (cc yes),
       λ m. absurd (refused c.args.u.now says c.args.def.now
-          (seen c.args.u.now (ids_of c.args.types.now) x) c.new-wanted.result.slots.items
+          (operation_seen c.args.u.now (ids_of c.args.types.now) x) c.new-wanted.result.slots.items
           c.new-wanted.ensures.none (c.if-not-ask_parts.ensures.refuses x e refl) m),
     )
 
@@ -40,9 +40,9 @@ returns g c =
     let says = tests (λ p. (g.dyn-1.0.entry p.0).1.property p.1) c.args.natives.now in
     let roots = c.as_slice-2.ensures ∙ c.roots-roots.ensures.items in
     λ x e.
-    let o = seen c.args.u.now (ids_of c.args.types.now) x in
+    let o = operation_seen c.args.u.now (ids_of c.args.types.now) x in
     let asks = c.if-not-ask_parts.ensures.asks x e refl in
-    decided c.solve.result c.is_some.result (Meets c.args.u.now says c.args.def.now.body)
+    decided c.solve.result c.is_some.result (MeetsBody c.args.u.now says c.args.def.now.body)
     (HasRoots c.args.u.now c.as_slice-2.result.now)
     (MeetsDefinition c.args.u.now says c.args.def.now o) c.args.u.now c.is_some.ensures
     c.solve.ensures.meets c.solve.ensures.roots c.solve.ensures.none

@@ -2,7 +2,7 @@ use Rattle.std.proofs.Common.{◌≡◌, ◌↔◌, subst, IsTrue}
 use Rattle.dialect_defs.specs.Operations.{MeetsDefinition}
 use Rattle.ir_store.specs.Numbering.{ops_in}
 use Rattle.native_predicate.specs.Lists.{tests}
-use Rattle.op_verifier.specs.Seen.{seen}
+use Rattle.op_verifier.specs.Seen.{operation_seen}
 use Rattle.op_verifier.proofs.Judging.{named-meets, same-answer}
 use Rattle.op_verifier.proofs.RegionSteps.{an-element}
 use Rattle.op_verifier.proofs.Walks.{all-get}
@@ -27,7 +27,7 @@ returns-clause-fronts g c =
     λ x e d o named same.
     let found = c.definition-def.ensures x e in
     let is : c.definition-def.result.now ≡ d = cc in
-    same-answer c.args.u.now says d o (seen c.args.u.now c.args.operands.now x) c.judge.result same
+    same-answer c.args.u.now says d o (operation_seen c.args.u.now c.args.operands.now x) c.judge.result same
     (subst (λ k. IsTrue c.judge.result
-    ↔ MeetsDefinition c.args.u.now says k (seen c.args.u.now c.args.operands.now x)) is
+    ↔ MeetsDefinition c.args.u.now says k (operation_seen c.args.u.now c.args.operands.now x)) is
     (c.judge.ensures x e))

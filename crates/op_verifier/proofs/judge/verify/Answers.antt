@@ -3,7 +3,7 @@ use Rattle.std.proofs.Common.{IsTrue, false, slice_get, Some}
 use Rattle.std.proofs.lemmas.Bool.{cases_lt}
 use Rattle.std.proofs.lemmas.Option.{slice_get_within}
 use Rattle.ir_store.specs.Numbering.{ops_in}
-use Rattle.ir_store.specs.Store.{Head}
+use Rattle.ir_store.specs.Store.{StoredHead}
 use Rattle.op_verifier.proofs.Judging.{judge-ids}
 use Rattle.op_verifier.proofs.RegionSteps.{an-element}
 use Rattle.op_verifier.proofs.Walks.{all-get}
@@ -23,7 +23,7 @@ returns-then-not-meets_stored-clause-err g c =
     record {
       site = x.0;
       stands = x.1;
-      place = ap (λ (h : Head). h.name.place) (sym (c.op.ensures.head x.0 x.1));
+      place = ap (λ (h : StoredHead). h.name.place) (sym (c.op.ensures.head x.0 x.1));
       fails = λ m.
           let yes : IsTrue false = (c.if-not-meets_stored.ensures x.0 x.1).1 m in
           absurd (cc yes);

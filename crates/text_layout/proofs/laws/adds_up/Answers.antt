@@ -1,11 +1,11 @@
-use Rattle.text_layout.proofs.Laying.{lays_nothing, lays_then, lays_more, whole, whole_stopped}
+use Rattle.text_layout.proofs.Laying.{lays-nothing, lays-then, lays-more, whole, whole-stopped}
 use Rattle.text_layout.proofs.laws.adds_up.Goals as goal
 
 pub returns : goal.returns
 returns c = record {
-  nothing = lays_nothing;
-  behind = lays_then;
-  stopped = lays_more;
+  nothing = lays-nothing;
+  behind = lays-then;
+  stopped = lays-more;
   whole = whole;
-  cut = whole_stopped;
+  cut = whole-stopped;
 }

@@ -1,8 +1,8 @@
 use Rattle.std.proofs.Common.{◌∙◌}
-use Rattle.text_layout.proofs.Single.{reads_integer_word}
+use Rattle.text_layout.proofs.Single.{reads-integer-word}
 use Rattle.text_layout.proofs.rules.is_integer_word.Goals as goal
 
 pub returns-in-Word : goal.returns-in-Word
 returns-in-Word c =
     rw c.in-Word.is (c.is_integer_type.ensures
-    ∙ reads_integer_word _ _ (rw c.in-Word.is at c.requires.spelled) c.new.ensures)
+    ∙ reads-integer-word _ _ (rw c.in-Word.is at c.requires.spelled) c.new.ensures)

@@ -1,7 +1,7 @@
 use Rattle.std.proofs.Common.{◌≡◌, ◌∙◌, ◌≤◌, ◌+◌, ◌++◌, arith, take, length, ap, sym, subst}
 use Rattle.std.proofs.lemmas.Grind.{common_steps}
 use Rattle.ir_lexer.specs.Spelling.{Spells}
-use Rattle.text_layout.proofs.Single.{none_more, one_byte_more, joins, no_join, spells_with}
+use Rattle.text_layout.proofs.Single.{none-more, one-byte-more, joins, no-join, spells-with}
 use Rattle.text_layout.proofs.rules.stays_apart.Goals as goal
 
 pub returns-in-Some : goal.returns-in-Some
@@ -9,7 +9,7 @@ returns-in-Some c =
     let x = c.args.a.now in
     let front = c.first_three-front.result.now in
     let i = c.loop-byte.byte-index in
-    let more = one_byte_more c.loop-byte.joined.items x front i 0 (omega arith)
+    let more = one-byte-more c.loop-byte.joined.items x front i 0 (omega arith)
     c.loop-byte.invariant.joined in
     let joined : c.push.new.self.items ≡ x ++ take (i + 1) front =
     grind (arith, common_steps, more) in
@@ -20,7 +20,7 @@ returns-in-Some c =
     omega (arith, ap length c.first_three-front.ensures) in
     joins c.args.last c.in-Some.field-0 x c.args.b.now (i + 1) c.requires.spelled (omega arith)
     within
-    (spells_with c.in-Some.field-0 c.push.new.self.items x front c.args.b.now (i + 1) joined
+    (spells-with c.in-Some.field-0 c.push.new.self.items x front c.args.b.now (i + 1) joined
     c.first_three-front.ensures spelled)
 
 pub loop-byte-preserved : goal.loop-byte-preserved
@@ -28,13 +28,13 @@ loop-byte-preserved c =
     let x = c.args.a.now in
     let front = c.first_three-front.result.now in
     let i = c.loop-byte.byte-index in
-    let more = one_byte_more c.loop-byte.joined.items x front i 0 (omega arith)
+    let more = one-byte-more c.loop-byte.joined.items x front i 0 (omega arith)
     c.loop-byte.invariant.joined in
     let joined : c.push.new.self.items ≡ x ++ take (i + 1) front =
     grind (arith, common_steps, more) in
     record {
       joined = joined;
-      none = none_more x front i c.loop-byte.invariant.none (λ class spelled.
+      none = none-more x front i c.loop-byte.invariant.none (λ class spelled.
           c.in_default.not-Some class ((c.class_of.ensures class).1
           (subst (Spells class) (sym (c.deref.ensures.value ∙ joined)) spelled)));
     }
@@ -43,7 +43,7 @@ pub returns : goal.returns
 returns c =
     let front = c.first_three-front.result.now in
     let e = c.first_three-front.ensures in
-    no_join c.args.last c.args.a.now c.args.b.now c.requires.spelled c.requires.others
+    no-join c.args.last c.args.a.now c.args.b.now c.requires.spelled c.requires.others
     (λ k class more le spelled. c.loop-byte.invariant.none k class more
     (omega (arith, ap length e))
     (subst (λ t. Spells class (c.args.a.now ++ take k t)) (sym e) spelled))

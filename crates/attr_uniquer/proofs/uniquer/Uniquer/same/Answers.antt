@@ -2,12 +2,12 @@ use Rattle.std.proofs.Common.{subst, ap, ◌∙◌, sym, [], eq-eqb}
 use Rattle.std.proofs.lemmas.Map.Views.{exact_unsigned_eq}
 use Rattle.attr_value.specs.declared.head.Head.TheVariants as h
 use Rattle.attr_value.specs.Ids.{AreDistinct, at}
-use Rattle.attr_uniquer.proofs.Once.{values_distinct}
+use Rattle.attr_uniquer.proofs.Once.{values-distinct}
 use Rattle.attr_uniquer.proofs.uniquer.Uniquer.same.Goals as goal
 
 pub returns-clause-distinct : goal.returns-clause-distinct
 returns-clause-distinct c = subst AreDistinct c.self.view_is
-    (values_distinct c.self.inside.rows.keys (record { head = h.Unit; kids = []; depth = 0 })
+    (values-distinct c.self.inside.rows.keys (record { head = h.Unit; kids = []; depth = 0 })
     c.self.invariant c.len.ensures.unique)
 
 pub returns-clause-same : goal.returns-clause-same

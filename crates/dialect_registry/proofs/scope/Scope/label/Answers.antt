@@ -1,8 +1,8 @@
 use Rattle.std.proofs.Common.{refl}
-use Rattle.dialect_registry.proofs.Known.{knows_label}
+use Rattle.dialect_registry.proofs.Known.{knows-label}
 use Rattle.dialect_registry.proofs.scope.Scope.label.Goals as goal
 
 pub returns : goal.returns
 returns c = λ ms k. rw c.note_if.ensures
-    (knows_label ms c.args.place c.args.name.now c.args.self.now _ k c.in_ok-known.known
+    (knows-label ms c.args.place c.args.name.now c.args.self.now _ k c.in_ok-known.known
     c.in_ok-known.ensures.before c.in_ok-known.ensures.after refl refl)

@@ -1,6 +1,6 @@
 use Rattle.std.proofs.Common.{◌∙◌, ap}
 use Rattle.ir_lexer.specs.Slice.{slice_source}
-use Rattle.ir_lexer.proofs.Sliced.{next_spells, next_short, behind_spell}
+use Rattle.ir_lexer.proofs.Sliced.{next-spells, next-short, behind-spell}
 use Rattle.ir_lexer.proofs.slice.SliceTokensTokenSource.text.Goals as goal
 
 pub returns-clause-value : goal.returns-clause-value
@@ -10,12 +10,12 @@ returns-clause-value c =
 
 pub returns-clause-spells : goal.returns-clause-spells
 unfolding slice_source
-returns-clause-spells c = next_spells c.args.self.now.text c.args.self.now.place
+returns-clause-spells c = next-spells c.args.self.now.text c.args.self.now.place
 
 pub returns-clause-later_spell : goal.returns-clause-later_spell
 unfolding slice_source
-returns-clause-later_spell c = behind_spell c.args.self.now.text c.args.self.now.place
+returns-clause-later_spell c = behind-spell c.args.self.now.text c.args.self.now.place
 
 pub returns-clause-short : goal.returns-clause-short
 unfolding slice_source
-returns-clause-short c = next_short c.args.self.now.text c.args.self.now.place
+returns-clause-short c = next-short c.args.self.now.text c.args.self.now.place

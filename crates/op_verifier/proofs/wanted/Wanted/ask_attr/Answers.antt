@@ -2,7 +2,7 @@ use Rattle.std.proofs.Common.{◌∙◌, ap, sym, option_map}
 use Rattle.attr_value.specs.Ids.{at}
 use Rattle.attr_value.specs.declared.head.ValueId.{ValueId}
 use Rattle.op_verifier.specs.Keys.{id_of_key}
-use Rattle.op_verifier.proofs.Found.{attr_at-seen, key-known}
+use Rattle.op_verifier.proofs.Found.{attr-at-seen, key-known}
 use Rattle.op_verifier.proofs.PartSteps.{some-asks, some-refuses, none-asks, none-refuses}
 use Rattle.op_verifier.proofs.wanted.Wanted.ask_attr.Goals as goal
 
@@ -14,7 +14,7 @@ ask-requires-clause-id c =
 pub returns-in-Some-clause-asks : goal.returns-in-Some-clause-asks
 returns-in-Some-clause-asks c =
     let e =
-    attr_at-seen c.args.u.now c.args.row.now.keys c.args.row.now.values
+    attr-at-seen c.args.u.now c.args.row.now.keys c.args.row.now.values
     c.args.entry.now.name
     ∙ ap (λ key. option_map (λ (id : ValueId). at c.args.u.now id.0)
     (id_of_key c.args.row.now.keys c.args.row.now.values key))
@@ -26,7 +26,7 @@ returns-in-Some-clause-asks c =
 pub returns-in-Some-clause-refuses : goal.returns-in-Some-clause-refuses
 returns-in-Some-clause-refuses c =
     let e =
-    attr_at-seen c.args.u.now c.args.row.now.keys c.args.row.now.values
+    attr-at-seen c.args.u.now c.args.row.now.keys c.args.row.now.values
     c.args.entry.now.name
     ∙ ap (λ key. option_map (λ (id : ValueId). at c.args.u.now id.0)
     (id_of_key c.args.row.now.keys c.args.row.now.values key))
@@ -38,7 +38,7 @@ returns-in-Some-clause-refuses c =
 pub returns-in-None-clause-asks : goal.returns-in-None-clause-asks
 returns-in-None-clause-asks c =
     let e =
-    attr_at-seen c.args.u.now c.args.row.now.keys c.args.row.now.values
+    attr-at-seen c.args.u.now c.args.row.now.keys c.args.row.now.values
     c.args.entry.now.name
     ∙ ap (λ key. option_map (λ (id : ValueId). at c.args.u.now id.0)
     (id_of_key c.args.row.now.keys c.args.row.now.values key))
@@ -50,7 +50,7 @@ returns-in-None-clause-asks c =
 pub returns-in-None-clause-refuses : goal.returns-in-None-clause-refuses
 returns-in-None-clause-refuses c =
     let e =
-    attr_at-seen c.args.u.now c.args.row.now.keys c.args.row.now.values
+    attr-at-seen c.args.u.now c.args.row.now.keys c.args.row.now.values
     c.args.entry.now.name
     ∙ ap (λ key. option_map (λ (id : ValueId). at c.args.u.now id.0)
     (id_of_key c.args.row.now.keys c.args.row.now.values key))

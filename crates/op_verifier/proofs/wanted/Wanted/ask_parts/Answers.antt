@@ -1,7 +1,7 @@
 use Rattle.std.proofs.Common.{◌∙◌, ap, sym, subst, refl, length}
 use Rattle.attr_value.specs.Ids.{AreKnown}
 use Rattle.ir_store.specs.Numbering.{ops_in}
-use Rattle.ir_store.specs.Store.{Head, head_of}
+use Rattle.ir_store.specs.Store.{StoredHead, head_of}
 use Rattle.ir_store.proofs.Inside.{op-placed}
 use Rattle.op_verifier.specs.Asked.{Asks, Refuses}
 use Rattle.op_verifier.specs.Parts.{HasParts}
@@ -16,33 +16,33 @@ use Rattle.op_verifier.proofs.wanted.Wanted.ask_parts.Goals as goal
 pub ask_operands-requires-clause-known : goal.ask_operands-requires-clause-known
 ask_operands-requires-clause-known c =
     let x = an-element (ops_in c.args.store.now) c.args.op.0 c.requires.op in
-    subst (λ (h : Head). AreKnown (length c.args.u.now) h.values) (c.op-row.ensures.head x.0 x.1)
+    subst (λ (h : StoredHead). AreKnown (length c.args.u.now) h.values) (c.op-row.ensures.head x.0 x.1)
     (all-get _ (ops_in c.args.store.now) c.args.op.0 x.0 c.requires.ids.attrs x.1)
 
 pub ask_results-requires-clause-known : goal.ask_results-requires-clause-known
 ask_results-requires-clause-known c =
     let x = an-element (ops_in c.args.store.now) c.args.op.0 c.requires.op in
-    subst (λ (h : Head). AreKnown (length c.args.u.now) h.values) (c.op-row.ensures.head x.0 x.1)
+    subst (λ (h : StoredHead). AreKnown (length c.args.u.now) h.values) (c.op-row.ensures.head x.0 x.1)
     (all-get _ (ops_in c.args.store.now) c.args.op.0 x.0 c.requires.ids.attrs x.1)
 
 pub ask_results-requires-clause-types : goal.ask_results-requires-clause-types
 ask_results-requires-clause-types c =
     let x = an-element (ops_in c.args.store.now) c.args.op.0 c.requires.op in
-    subst (λ (h : Head). AreKnown (length c.args.u.now) h.results) (c.op-row.ensures.head x.0 x.1)
+    subst (λ (h : StoredHead). AreKnown (length c.args.u.now) h.results) (c.op-row.ensures.head x.0 x.1)
     (types-known _ c.args.store.now x.0.at.values x.0.head.results c.requires.ids.types
     (op-placed c.args.store.now c.args.op x.0 x.1).1)
 
 pub ask_attrs-requires-clause-known : goal.ask_attrs-requires-clause-known
 ask_attrs-requires-clause-known c =
     let x = an-element (ops_in c.args.store.now) c.args.op.0 c.requires.op in
-    subst (λ (h : Head). AreKnown (length c.args.u.now) h.values) (c.op-row.ensures.head x.0 x.1)
+    subst (λ (h : StoredHead). AreKnown (length c.args.u.now) h.values) (c.op-row.ensures.head x.0 x.1)
     (all-get _ (ops_in c.args.store.now) c.args.op.0 x.0 c.requires.ids.attrs x.1)
 
 pub returns-then-not-ask_operands-clause-refuses : goal.returns-then-not-ask_operands-clause-refuses
 returns-then-not-ask_operands-clause-refuses c =
     let o = λ (x : Site). operation c.args.u.now (ids_of c.args.types.now)
     (head_of c.op-row.result.now) x.regions in
-    λ x e no. subst (λ (h : Head). Refuses c.args.u.now c.args.self.now.slots.items
+    λ x e no. subst (λ (h : StoredHead). Refuses c.args.u.now c.args.self.now.slots.items
     (HasParts c.args.def.now (operation c.args.u.now (ids_of c.args.types.now) h x.regions)))
     (sym (c.op-row.ensures.head x e))
     (operands-refuse c.args.u.now c.args.def.now (o x) c.args.self.now.slots.items
@@ -56,7 +56,7 @@ returns-then-not-ask_results-clause-refuses c =
     let o = λ (x : Site). operation c.args.u.now (ids_of c.args.types.now)
     (head_of c.op-row.result.now) x.regions in
     let first = rw c.as_slice-2.ensures at (c.if-not-ask_operands.ensures.asks refl) in
-    λ x e no. subst (λ (h : Head). Refuses c.args.u.now c.args.self.now.slots.items
+    λ x e no. subst (λ (h : StoredHead). Refuses c.args.u.now c.args.self.now.slots.items
     (HasParts c.args.def.now (operation c.args.u.now (ids_of c.args.types.now) h x.regions)))
     (sym (c.op-row.ensures.head x e))
     (results-refuse c.args.u.now c.args.def.now (o x) c.args.self.now.slots.items
@@ -71,7 +71,7 @@ returns-then-not-ask_attrs-clause-refuses c =
     (head_of c.op-row.result.now) x.regions in
     let first = rw c.as_slice-2.ensures at (c.if-not-ask_operands.ensures.asks refl) in
     let second = rw c.as_slice-3.ensures at (c.if-not-ask_results.ensures.asks refl) in
-    λ x e no. subst (λ (h : Head). Refuses c.args.u.now c.args.self.now.slots.items
+    λ x e no. subst (λ (h : StoredHead). Refuses c.args.u.now c.args.self.now.slots.items
     (HasParts c.args.def.now (operation c.args.u.now (ids_of c.args.types.now) h x.regions)))
     (sym (c.op-row.ensures.head x e))
     (attrs-refuse c.args.u.now c.args.def.now (o x) c.args.self.now.slots.items
@@ -87,7 +87,7 @@ returns-clause-refuses c =
     let first = rw c.as_slice-2.ensures at (c.if-not-ask_operands.ensures.asks refl) in
     let second = rw c.as_slice-3.ensures at (c.if-not-ask_results.ensures.asks refl) in
     let third = rw c.as_slice-4.ensures at (c.if-not-ask_attrs.ensures.asks refl) in
-    λ x e no. subst (λ (h : Head). Refuses c.args.u.now c.args.self.now.slots.items
+    λ x e no. subst (λ (h : StoredHead). Refuses c.args.u.now c.args.self.now.slots.items
     (HasParts c.args.def.now (operation c.args.u.now (ids_of c.args.types.now) h x.regions)))
     (sym (c.op-row.ensures.head x e))
     (regions-refuse c.args.u.now c.args.def.now (o x) c.args.self.now.slots.items
@@ -105,7 +105,7 @@ returns-clause-asks c =
     let third = rw c.as_slice-4.ensures at (c.if-not-ask_attrs.ensures.asks refl) in
     let successors =
     sym c.len.ensures.value ∙ c.if-len-as_slice.false ∙ ap length c.as_slice.ensures in
-    λ x e yes. subst (λ (h : Head). Asks c.args.u.now c.args.self.now.slots.items
+    λ x e yes. subst (λ (h : StoredHead). Asks c.args.u.now c.args.self.now.slots.items
     c.ask_regions.new.self.slots.items
     (HasParts c.args.def.now (operation c.args.u.now (ids_of c.args.types.now) h x.regions)))
     (sym (c.op-row.ensures.head x e))

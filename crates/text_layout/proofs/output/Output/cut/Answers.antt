@@ -1,12 +1,12 @@
 use Rattle.std.proofs.Common.{refl}
-use Rattle.text_layout.proofs.Flows.{cut_whole, cut_front}
+use Rattle.text_layout.proofs.Flows.{cut-whole, cut-front}
 use Rattle.text_layout.proofs.output.Output.cut.Goals as goal
 
 pub returns-in-Ok-clause-cause : goal.returns-in-Ok-clause-cause
 returns-in-Ok-clause-cause g c =
     let out = c.args.self.now in (
       c.requires.beyond,
-      cut_whole _ _ c.deref.result.now out.held.items c.args.gap.now
+      cut-whole _ _ c.deref.result.now out.held.items c.args.gap.now
           c.args.text.now out.laid _ _ c.requires.beyond c.min.ensures refl c.deref.ensures.value
           c.in-Ok.ensures.whole,
     )
@@ -15,7 +15,7 @@ pub returns-in-Err-clause-cause : goal.returns-in-Err-clause-cause
 returns-in-Err-clause-cause g c =
     let out = c.args.self.now in (
       c.in-Err.ensures.cause,
-      cut_front _ _ c.deref.result.now out.held.items c.args.gap.now
+      cut-front _ _ c.deref.result.now out.held.items c.args.gap.now
           c.args.text.now out.laid _ _ c.min.ensures refl c.deref.ensures.value
           c.in-Err.ensures.part,
     )
