@@ -7,7 +7,8 @@ use Rattle.std.proofs.Common.{◌≡◌, Bool, true, false, not, ◌&&◌, ◌||
 use Rattle.ir_lexer.specs.Tokens.{Token}
 use Rattle.grammar.proofs.Meet.{and-true, or-true, not-or, a-token, passes-some}
 use Rattle.grammar.specs.Grammar.{Tokens, G, ret, tok, both, alt, star, chain, made, placed, kid, place_of, Links, Derives, nullable, starts}
-use Rattle.grammar.specs.Front.{Lists, Viable, Some_of}
+use Rattle.grammar.specs.Exact.{HasMore}
+use Rattle.grammar.specs.Front.{Lists, Some_of}
 use Rattle.grammar.proofs.Then.{Apart}
 use Rattle.grammar.proofs.Firsts.{Kids}
 use Rattle.grammar.proofs.Firsts as firsts
@@ -32,12 +33,15 @@ pub record Samples {X : Type 0} {Sem : X → Type 0} (Derived : (x : X) → Toke
 
 module _ {X : Type 0} {Sem : X → Type 0} (Derived : (x : X) → Tokens → Sem x → Type 0)
     (kid_starts : X → Token → Bool) where
+  -- the tokens are a piece of the grammar, with this tree
   abbrev Tree : {A : Type 0} → G X Sem A → Tokens → A → Type 0
   Tree g = Derives Derived g
 
+  -- a piece begins with the token
   abbrev opens : {A : Type 0} → G X Sem A → Token → Bool
   opens g = starts kid_starts g
 
+  -- the tokens are a piece
   abbrev Piece : {A : Type 0} → G X Sem A → Lists
   Piece g = Some_of (Tree g)
 
@@ -82,9 +86,9 @@ module _ {X : Type 0} {Sem : X → Type 0} (Derived : (x : X) → Tokens → Sem
       -- of two pieces one after the other, by the first or, where it may be empty, by the second
       begun-or : {A B C : Type 0} (f : B → C → A) (g : G X Sem B) (h : G X Sem C) (t : Token)
           → (opens g t ≡ true) ⊎ ((nullable g && opens h t) ≡ true) → (ts : Tokens) × Piece h ts
-          → (opens g t ≡ true → Viable (Piece g) (t ∷ []))
-          → (nullable g ≡ true → opens h t ≡ true → Viable (Piece h) (t ∷ []))
-          → Viable (Piece (both f g h)) (t ∷ [])
+          → (opens g t ≡ true → HasMore (Piece g) (t ∷ []))
+          → (nullable g ≡ true → opens h t ≡ true → HasMore (Piece h) (t ∷ []))
+          → HasMore (Piece (both f g h)) (t ∷ [])
       begun-or f g h t (inl e) s x y = let u = x e in
           (u.0 ++ s.0, (f u.1.0 s.1.0, (t ∷ u.0, s.0, u.1.0, s.1.0, refl, u.1.1, s.1.1, refl)))
       begun-or f g h t (inr e) s x y = let p = and-true _ _ e in let u = empty-piece g p.0 in
@@ -94,8 +98,8 @@ module _ {X : Type 0} {Sem : X → Type 0} (Derived : (x : X) → Tokens → Sem
       -- of a choice, by either branch
       begun-alt : {A : Type 0} (g h : G X Sem A) (t : Token)
           → (opens g t ≡ true) ⊎ (opens h t ≡ true)
-          → (opens g t ≡ true → Viable (Piece g) (t ∷ []))
-          → (opens h t ≡ true → Viable (Piece h) (t ∷ [])) → Viable (Piece (alt g h)) (t ∷ [])
+          → (opens g t ≡ true → HasMore (Piece g) (t ∷ []))
+          → (opens h t ≡ true → HasMore (Piece h) (t ∷ [])) → HasMore (Piece (alt g h)) (t ∷ [])
       begun-alt g h t (inl e) x y = let u = x e in (u.0, (u.1.0, inl u.1.1))
       begun-alt g h t (inr e) x y = let u = y e in (u.0, (u.1.0, inr u.1.1))
 
@@ -104,10 +108,10 @@ module _ {X : Type 0} {Sem : X → Type 0} (Derived : (x : X) → Tokens → Sem
           (h : G X Sem B) (k : G X Sem C) (l : G X Sem D) (t : Token)
           → (opens h t ≡ true) ⊎ ((nullable h && (opens k t || opens l t)) ≡ true)
           → (ts : Tokens) × Piece l ts
-          → (opens h t ≡ true → Viable (Piece h) (t ∷ []))
-          → (nullable h ≡ true → opens k t ≡ true → Viable (Piece k) (t ∷ []))
-          → (nullable h ≡ true → opens l t ≡ true → Viable (Piece l) (t ∷ []))
-          → Viable (Some_of (Links u v (Tree h) (Tree k) (Tree l))) (t ∷ [])
+          → (opens h t ≡ true → HasMore (Piece h) (t ∷ []))
+          → (nullable h ≡ true → opens k t ≡ true → HasMore (Piece k) (t ∷ []))
+          → (nullable h ≡ true → opens l t ≡ true → HasMore (Piece l) (t ∷ []))
+          → HasMore (Some_of (Links u v (Tree h) (Tree k) (Tree l))) (t ∷ [])
       begun-links f u v h k l t (inl e) s x y z = let w = x e in (
         w.0 ++ s.0,
         (v w.1.0 s.1.0 ∷ [], (t ∷ w.0, s.0, w.1.0, refl, w.1.1, inr (s.1.0, s.1.1, refl, refl))),
@@ -116,10 +120,10 @@ module _ {X : Type 0} {Sem : X → Type 0} (Derived : (x : X) → Tokens → Sem
           let p = and-true _ _ e in let w = empty-piece h p.0 in
           go w.0 w.1 (y p.0) (z p.0) (or-true _ _ p.1)
         where
-          go : (b : B) → Tree h [] b → (opens k t ≡ true → Viable (Piece k) (t ∷ []))
-              → (opens l t ≡ true → Viable (Piece l) (t ∷ []))
+          go : (b : B) → Tree h [] b → (opens k t ≡ true → HasMore (Piece k) (t ∷ []))
+              → (opens l t ≡ true → HasMore (Piece l) (t ∷ []))
               → (opens k t ≡ true) ⊎ (opens l t ≡ true)
-              → Viable (Some_of (Links u v (Tree h) (Tree k) (Tree l))) (t ∷ [])
+              → HasMore (Some_of (Links u v (Tree h) (Tree k) (Tree l))) (t ∷ [])
           go b d y z (inl e) = let w = y e in (
             w.0,
             (
@@ -140,7 +144,7 @@ module _ {X : Type 0} {Sem : X → Type 0} (Derived : (x : X) → Tokens → Sem
       -- a token that the grammar starts with is the first of a piece, where no nonterminal stands
       -- at the front
       pub begun-guarded : {A : Type 0} (g : G X Sem A) → IsOneToken g → guarded g ≡ true
-          → (t : Token) → opens g t ≡ true → Viable (Piece g) (t ∷ [])
+          → (t : Token) → opens g t ≡ true → HasMore (Piece g) (t ∷ [])
       begun-guarded (ret b) l w t e = absurd (cc)
       begun-guarded (tok begins look f) l w t e = ([], (f t, (t, refl, e, refl)))
       begun-guarded (both f g h) l w t e = let p = and-true (guarded g) _ w in
@@ -171,10 +175,10 @@ module _ {X : Type 0} {Sem : X → Type 0} (Derived : (x : X) → Tokens → Sem
       begun-guarded (kid x f) l w t e = absurd (cc)
 
       module _ (kid_begun : (x : X) (t : Token) → kid_starts x t ≡ true
-          → Viable (Some_of (Derived x)) (t ∷ [])) where
+          → HasMore (Some_of (Derived x)) (t ∷ [])) where
         -- a token that the grammar starts with is the first of a piece
         pub begun : {A : Type 0} (g : G X Sem A) → IsOneToken g → (t : Token) → opens g t ≡ true
-            → Viable (Piece g) (t ∷ [])
+            → HasMore (Piece g) (t ∷ [])
         begun (ret b) l t e = absurd (cc)
         begun (tok begins look f) l t e = ([], (f t, (t, refl, e, refl)))
         begun (both f g h) l t e =

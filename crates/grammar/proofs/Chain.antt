@@ -6,7 +6,8 @@
 use Rattle.std.proofs.Common.{◌≡◌, ℕ, zero, suc, ◌≤◌, Bool, true, false, List, [], ◌∷◌, ◌++◌, length, ◌⊎◌, inl, inr, refl, sym, ◌∙◌, ap, subst, append-nil, append_assoc, arith, if◌then◌else◌}
 use Rattle.ir_lexer.specs.Tokens.{Token}
 use Rattle.grammar.specs.Grammar.{Tokens, Parser, Outcome, done, stop, ◌>>=◌, pure, Links, DeepLinks, body, links}
-use Rattle.grammar.specs.Front.{Lists, Viable, Barred, Shallow, Some_of, Front, IsExactAnswer}
+use Rattle.grammar.specs.Exact.{HasMore, IsExactAnswer}
+use Rattle.grammar.specs.Front.{Lists, Barred, Shallow, Some_of, Front}
 use Rattle.grammar.proofs.Shrink.{Takes, Fewer}
 use Rattle.grammar.proofs.Then.{Apart, Both, DeepBoth, then-meets, deep-both-seen, Mapped, map-meets}
 use Rattle.grammar.proofs.Choice.{choice-meets, empty-parts}
@@ -48,13 +49,13 @@ module _ {B C D I : Type 0} (p : B → C → I) (q : B → D → I) (H : Tokens 
 
 module _ {B C D I : Type 0} (p : B → C → I) (q : B → D → I) (H : Tokens → B → Type 0)
     (K : Tokens → C → Type 0) (L : Tokens → D → Type 0) (DH DK DL : Lists)
-    (seen_h : (w : Tokens) → DH w → Viable (Some_of H) w)
-    (seen_k : (w : Tokens) → DK w → Viable (Some_of K) w)
-    (seen_l : (w : Tokens) → DL w → Viable (Some_of L) w)
+    (seen_h : (w : Tokens) → DH w → HasMore (Some_of H) w)
+    (seen_k : (w : Tokens) → DK w → HasMore (Some_of K) w)
+    (seen_l : (w : Tokens) → DL w → HasMore (Some_of L) w)
     (sample_l : (ts : Tokens) × Some_of L ts) where
   -- what is too deep in a row is viable
   pub chain-seen : (n : ℕ) (w : Tokens) → DeepLinks H K L DH DK DL n w
-      → Viable (Some_of (Chain p q H K L)) w
+      → HasMore (Some_of (Chain p q H K L)) w
   chain-seen zero w (inl x) = let v = seen_h w x in (
     v.0 ++ sample_l.0,
     (
@@ -135,16 +136,16 @@ module _ {B C D I : Type 0} (p : B → C → I) (q : B → D → I) (H : Tokens 
     (l_meets : (ts : Tokens) → IsExactAnswer L DL ts (pl ts))
     (apart_h : Apart (Some_of H) (λ w. Some_of K w ⊎ Some_of L w))
     (apart_k : Apart (Some_of K) (Some_of (Chain p q H K L)))
-    (seen_h : (w : Tokens) → DH w → Viable (Some_of H) w)
-    (seen_k : (w : Tokens) → DK w → Viable (Some_of K) w)
-    (seen_l : (w : Tokens) → DL w → Viable (Some_of L) w)
+    (seen_h : (w : Tokens) → DH w → HasMore (Some_of H) w)
+    (seen_k : (w : Tokens) → DK w → HasMore (Some_of K) w)
+    (seen_l : (w : Tokens) → DL w → HasMore (Some_of L) w)
     (some_h : DH [] → ⊥) (some_k : DK [] → ⊥) (some_l : DL [] → ⊥)
     (full-k : (c : C) → K [] c → ⊥) (full-l : (d : D) → L [] d → ⊥)
     (k_first : (t : Token) (w : Tokens) (c : C) → K (t ∷ w) c → body_begins t ≡ true)
     (l_first : (t : Token) (w : Tokens) (d : D) → L (t ∷ w) d → body_begins t ≡ true → ⊥)
     (first : (t : Token) (w : Tokens) (is : List I) → Links p q H K L (t ∷ w) is → begins t ≡ true)
-    (begun : (t : Token) → begins t ≡ true → Viable (Some_of (Chain p q H K L)) (t ∷ []))
-    (k_begun : (t : Token) → body_begins t ≡ true → Viable (Some_of K) (t ∷ []))
+    (begun : (t : Token) → begins t ≡ true → HasMore (Some_of (Chain p q H K L)) (t ∷ []))
+    (k_begun : (t : Token) → body_begins t ≡ true → HasMore (Some_of K) (t ∷ []))
     (sample_l : (ts : Tokens) × Some_of L ts) where
   -- the row
   abbrev Ch : Tokens → List I → Type 0
@@ -158,7 +159,7 @@ module _ {B C D I : Type 0} (p : B → C → I) (q : B → D → I) (H : Tokens 
   abbrev DeepCh : Lists
   DeepCh w = (n : ℕ) × DeepLinks H K L DH DK DL n w
 
-  ch-seen : (w : Tokens) → DeepCh w → Viable (Some_of Ch) w
+  ch-seen : (w : Tokens) → DeepCh w → HasMore (Some_of Ch) w
   ch-seen w x = chain-seen p q H K L DH DK DL seen_h seen_k seen_l sample_l x.0 w x.1
 
   ch-some : DeepCh [] → ⊥
@@ -183,10 +184,10 @@ module _ {B C D I : Type 0} (p : B → C → I) (q : B → D → I) (H : Tokens 
   abbrev LastOf : Tokens → (B → List I) → Type 0
   LastOf = Last p q H K L
 
-  last-seen : (w : Tokens) → DL w → Viable (Some_of LastOf) w
+  last-seen : (w : Tokens) → DL w → HasMore (Some_of LastOf) w
   last-seen w x = let v = seen_l w x in (v.0, ((λ b. q b v.1.0 ∷ []), (v.1.0, v.1.1, refl)))
 
-  after-seen : (w : Tokens) → DeepAfterK w → Viable (Some_of AfterK) w
+  after-seen : (w : Tokens) → DeepAfterK w → HasMore (Some_of AfterK) w
   after-seen w x =
       deep-both-seen {A = B → List I}
       (λ c is. λ b. p b c ∷ is) K Ch DK DeepCh apart_k seen_k ch-seen ch-some ([], ([], refl)) w x
@@ -243,7 +244,7 @@ module _ {B C D I : Type 0} (p : B → C → I) (q : B → D → I) (H : Tokens 
           (λ rest z e2 o. after-empty o.0 o.1)
           (map-meets (λ d. λ b. q b d ∷ []) L DL (t ∷ ts) (pl (t ∷ ts)) (l_meets (t ∷ ts)))
 
-  rest-seen : (w : Tokens) → DeepRe w → Viable (Some_of Re) w
+  rest-seen : (w : Tokens) → DeepRe w → HasMore (Some_of Re) w
   rest-seen w (inl x) = let v = after-seen w x in (v.0, (v.1.0, inl v.1.1))
   rest-seen w (inr x) = let v = last-seen w x in (v.0, (v.1.0, inr v.1.1))
 

@@ -43,18 +43,23 @@ either p q t a b x y e = go (any p t) (any q t) (sym (any-append p q t) ∙ e) x
     go false d e x y = true-or a b (y e)
 
 module _ {X : Type 0} {Sem : X → Type 0} (begins goes_on : X → List Look) where
+  -- the test of first tokens says what the looks do
   abbrev Starts : {A : Type 0} → G X Sem A → Token → Bool
   Starts g t = starts (by_looks begins) g t
 
+  -- the looks with which a piece begins
   abbrev firsts : {A : Type 0} → G X Sem A → List Look
   firsts g = first_looks begins g
 
+  -- the looks that go on with a whole piece
   abbrev mores : {A : Type 0} → G X Sem A → List Look
   mores g = more_looks begins goes_on g
 
+  -- one look decides at each place
   abbrev test : {A : Type 0} → G X Sem A → Bool
   test g = check begins goes_on g
 
+  -- what goes on with a whole piece
   abbrev More : {A : Type 0} → G X Sem A → Token → Bool
   More g t = more (by_looks begins) (by_looks goes_on) g t
 

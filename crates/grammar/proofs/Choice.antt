@@ -6,7 +6,8 @@
 use Rattle.std.proofs.Common.{◌≡◌, ℕ, zero, suc, ◌≤◌, Bool, true, false, List, [], ◌∷◌, ◌++◌, length, ◌⊎◌, inl, inr, refl, sym, ◌∙◌, ap, subst, append-nil, append_assoc, arith, if◌then◌else◌}
 use Rattle.ir_lexer.specs.Tokens.{Token}
 use Rattle.grammar.specs.Grammar.{Tokens, Parser, Outcome, done, stop, ◌>>=◌, pure, turns, EachPiece}
-use Rattle.grammar.specs.Front.{Lists, Viable, Barred, Shallow, Some_of, Front, Refused, IsExactAnswer}
+use Rattle.grammar.specs.Exact.{HasMore, Blocked, IsExactAnswer}
+use Rattle.grammar.specs.Front.{Lists, Barred, Shallow, Some_of, Front}
 use Rattle.grammar.proofs.Shrink.{Takes}
 use Rattle.grammar.proofs.Then.{Apart, Both, DeepBoth, then-meets}
 
@@ -21,7 +22,7 @@ module _ {A : Type 0} (R O T : Tokens → A → Type 0) (DR DO DT : Lists)
     (out : (w : Tokens) → Some_of T w → Some_of R w ⊎ Some_of O w)
     (deep_into : (p : Tokens) → DR p → DT p) (deep_out : (p : Tokens) → DT p → DR p ⊎ DO p)
     (ts : Tokens) (alien : (t : Token) (more w : Tokens) → ts ≡ t ∷ more → Some_of O (t ∷ w) → ⊥)
-    (other_seen : (p : Tokens) → DO p → Viable (Some_of O) p) (some : DO [] → ⊥) where
+    (other_seen : (p : Tokens) → DO p → HasMore (Some_of O) p) (some : DO [] → ⊥) where
   -- nothing of the other branch is too deep here
   deep-alien : (p q : Tokens) → ts ≡ p ++ q → DO p → ⊥
   deep-alien [] q is x = some x
@@ -59,7 +60,7 @@ module _ {A : Type 0} (R O T : Tokens → A → Type 0) (DR DO DT : Lists)
 
   -- a reader that meets what is asked for the one branch meets it for the choice
   pub choice-meets : (o : Outcome A)
-      → ((rest : Tokens) (x : Refused R DR ts rest) → x.front ≡ [] → Some_of O [] → ⊥)
+      → ((rest : Tokens) (x : Blocked R DR ts rest) → x.front ≡ [] → Some_of O [] → ⊥)
       → IsExactAnswer R DR ts o → IsExactAnswer T DT ts o
   choice-meets (done a rest) empty x = record {
     front = x.front;
@@ -93,15 +94,15 @@ DeepStar {B = B} R D p =
 
 -- what is too deep in a row of pieces is viable
 pub star-seen : {B : Type 0} (R : Tokens → B → Type 0) (D : Lists)
-    (seen : (p : Tokens) → D p → Viable (Some_of R) p) (p : Tokens) → DeepStar R D p
-    → Viable (Some_of (EachPiece R)) p
+    (seen : (p : Tokens) → D p → HasMore (Some_of R) p) (p : Tokens) → DeepStar R D p
+    → HasMore (Some_of (EachPiece R)) p
 star-seen {B = B} R D seen p (front, back, bs, is, each, x) = go front bs p is each
   where
-    v : Viable (Some_of R) back
+    v : HasMore (Some_of R) back
     v = seen back x
 
     go : (front : Tokens) (bs : List B) (p : Tokens) → p ≡ front ++ back → EachPiece R front bs
-        → Viable (Some_of (EachPiece R)) p
+        → HasMore (Some_of (EachPiece R)) p
     go front [] p is each = (
       v.0,
       (
@@ -140,11 +141,11 @@ star-some R D some (front, back, bs, is, each, x) = some (subst D (empty-parts f
 module _ {B : Type 0} (begins : Token → Bool) (item : Parser B) (R : Tokens → B → Type 0)
     (D : Lists)
     (takes : Takes item) (item_meets : (ts : Tokens) → IsExactAnswer R D ts (item ts))
-    (apart : Apart (Some_of R) (Some_of R)) (seen : (p : Tokens) → D p → Viable (Some_of R) p)
+    (apart : Apart (Some_of R) (Some_of R)) (seen : (p : Tokens) → D p → HasMore (Some_of R) p)
     (some : D [] → ⊥)
     (full : (b : B) → R [] b → ⊥)
     (sound : (t : Token) (w : Tokens) (b : B) → R (t ∷ w) b → begins t ≡ true)
-    (begun : (t : Token) → begins t ≡ true → Viable (Some_of R) (t ∷ [])) where
+    (begun : (t : Token) → begins t ≡ true → HasMore (Some_of R) (t ∷ [])) where
   -- a list of pieces that isn't empty
   each-cons : (t : Token) (w : Tokens) → Some_of (EachPiece R) (t ∷ w)
       → (front back : Tokens) × (b : B) × (bs : List B) × (t ∷ w ≡ (t ∷ front) ++ back)
@@ -224,7 +225,7 @@ module _ {B : Type 0} (begins : Token → Bool) (item : Parser B) (R : Tokens �
 
   -- a turn that began took a token
   none-star : (t : Token) (ts front rest : Tokens) → begins t ≡ true → t ∷ ts ≡ front ++ rest
-      → Viable (Some_of Turn) front → Barred (Some_of Turn) front rest → (Some_of Turn front → ⊥)
+      → HasMore (Some_of Turn) front → Barred (Some_of Turn) front rest → (Some_of Turn front → ⊥)
       → Some_of (EachPiece R) front → ⊥
   none-star t ts [] rest h is v bar n x =
       let u = begun t h in

@@ -6,7 +6,8 @@
 use Rattle.std.proofs.Common.{◌≡◌, [], ◌∷◌, ◌++◌, ◌⊎◌, inl, inr, refl, sym, ◌∙◌, ap, subst, append-nil, append_assoc}
 use Rattle.ir_lexer.specs.Tokens.{Token}
 use Rattle.grammar.specs.Grammar.{Tokens}
-use Rattle.grammar.specs.Front.{Lists, Viable, Barred, Shallow}
+use Rattle.grammar.specs.Exact.{HasMore}
+use Rattle.grammar.specs.Front.{Lists, Barred, Shallow}
 
 -- how two ways to cut a list lie
 pub data Split (a b c d : Tokens) : Type 0 where
@@ -38,7 +39,7 @@ head-of (x ∷ d2) t y e more w h = (d2 ++ t ∷ more, ap (λ z. z ∷ (d2 ++ t 
 
 module _ (P Q DP DQ : Lists)
     (apart : (d : Tokens) (y : Token) (e w : Tokens) → P d → P (d ++ y ∷ e) → Q (y ∷ w) → ⊥)
-    (seen : (p : Tokens) → DP p → Viable P p) (next_seen : (p : Tokens) → DQ p → Viable Q p)
+    (seen : (p : Tokens) → DP p → HasMore P p) (next_seen : (p : Tokens) → DQ p → HasMore Q p)
     (some : DQ [] → ⊥) where
   -- a piece and then a piece
   abbrev pub Joined : Lists
@@ -80,7 +81,7 @@ module _ (P Q DP DQ : Lists)
       → Shallow DQ d2 → Shallow Deeper (d1 ++ d2)
   shallow-second d1 d2 rest p bp sp sq a b h (inl x) = go (split a b d1 d2 (sym h))
     where
-      v : Viable P a
+      v : HasMore P a
       v = seen a x
 
       go : Split a b d1 d2 → ⊥
@@ -92,7 +93,7 @@ module _ (P Q DP DQ : Lists)
       go back refl
       (split front (back ++ b) d1 d2 (sym (h ∙ ap (λ l. l ++ b) is ∙ append_assoc front back b)))
     where
-      v : Viable Q back
+      v : HasMore Q back
       v = next_seen back x
 
       go : (k : Tokens) → back ≡ k → Split front (back ++ b) d1 d2 → ⊥
@@ -106,7 +107,7 @@ module _ (P Q DP DQ : Lists)
           (subst Q (ap (λ l. l ++ v.0) ek ∙ ap (λ w. w ∷ (k ++ v.0)) hd) v.1)
 
   -- where the first goes on to no piece, both are barred as the first is
-  pub barred-first : (d rest : Tokens) → Viable P d → (P d → ⊥) → Barred P d rest
+  pub barred-first : (d rest : Tokens) → HasMore P d → (P d → ⊥) → Barred P d rest
       → Barred Joined d rest
   barred-first d rest v n bp t more e is (front, back, h, pf, qb) =
       go (split front back d (t ∷ e) (sym h))
@@ -118,7 +119,7 @@ module _ (P Q DP DQ : Lists)
           (subst P (ap (λ l. l ++ v.0) e1 ∙ append_assoc front (y ∷ e') v.0) v.1) (subst Q e2 qb)
 
   -- where the first is no piece yet, both are none
-  pub none-first : (d : Tokens) → Viable P d → (P d → ⊥) → Joined d → ⊥
+  pub none-first : (d : Tokens) → HasMore P d → (P d → ⊥) → Joined d → ⊥
   none-first d v n (front, back, h, pf, qb) = go back refl
     where
       go : (k : Tokens) → back ≡ k → ⊥
@@ -128,11 +129,11 @@ module _ (P Q DP DQ : Lists)
           ∙ append_assoc front (y ∷ k) v.0) v.1) (subst Q ek qb)
 
   -- where the first goes on and is shallow, both are shallow
-  pub shallow-first : (d : Tokens) → Viable P d → Shallow DP d → Shallow Deeper d
+  pub shallow-first : (d : Tokens) → HasMore P d → Shallow DP d → Shallow Deeper d
   shallow-first d v sp a b h (inl x) = sp a b h x
   shallow-first d v sp a b h (inr (front, back, is, pf, x)) = go back refl
     where
-      u : Viable Q back
+      u : HasMore Q back
       u = next_seen back x
 
       go : (k : Tokens) → back ≡ k → ⊥

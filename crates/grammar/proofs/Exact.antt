@@ -9,7 +9,8 @@ use Rattle.ir_lexer.specs.Tokens.{Token}
 use Rattle.grammar.specs.Looks.{Look, passes}
 use Rattle.grammar.proofs.Meet.{or-true, a-token, passes-some}
 use Rattle.grammar.specs.Grammar.{Tokens, Parser, done, stop, on_head, EachPiece, G, ret, tok, both, alt, star, chain, made, placed, kid, place_of, Links, DeepLinks, Derives, Deep, nullable, starts, reads, read_tok}
-use Rattle.grammar.specs.Front.{Lists, Viable, Some_of, IsExactAnswer}
+use Rattle.grammar.specs.Exact.{HasMore, IsExactAnswer}
+use Rattle.grammar.specs.Front.{Lists, Some_of}
 use Rattle.grammar.proofs.Shrink.{Takes, takes-if, fewer-of}
 use Rattle.grammar.proofs.Then.{then-meets, deep-both-seen, map-meets, place-meets}
 use Rattle.grammar.proofs.Chain.{chain-seen, chain-some, links-meet}
@@ -23,13 +24,16 @@ module _ {X : Type 0} {Sem : X → Type 0} (Derived : (x : X) → Tokens → Sem
     (kid_starts : X → Token → Bool)
     (kids : Kids Derived kid_starts) (samples : Samples Derived kid_starts)
     (kid_begun : (x : X) (t : Token) → kid_starts x t ≡ true
-    → Viable (Some_of (Derived x)) (t ∷ [])) where
+    → HasMore (Some_of (Derived x)) (t ∷ [])) where
+  -- the tokens are a piece of the grammar, with this tree
   abbrev Tree : {A : Type 0} → G X Sem A → Tokens → A → Type 0
   Tree g = Derives Derived g
 
+  -- a piece begins with the token
   abbrev opens : {A : Type 0} → G X Sem A → Token → Bool
   opens g = starts kid_starts g
 
+  -- the tokens are a piece
   abbrev Piece : {A : Type 0} → G X Sem A → Lists
   Piece g = Some_of (Tree g)
 
@@ -46,9 +50,10 @@ module _ {X : Type 0} {Sem : X → Type 0} (Derived : (x : X) → Tokens → Sem
   sample g o = begins.sample Derived kid_starts kids samples g o
 
   begun : {A : Type 0} (g : G X Sem A) → IsOneToken Derived kid_starts g → (t : Token)
-      → opens g t ≡ true → Viable (Piece g) (t ∷ [])
+      → opens g t ≡ true → HasMore (Piece g) (t ∷ [])
   begun g o t e = begins.begun Derived kid_starts kids samples kid_begun g o t e
 
+  -- one token decides at each place
   abbrev OneToken : {A : Type 0} → G X Sem A → Type 0
   OneToken g = IsOneToken Derived kid_starts g
 
@@ -75,8 +80,9 @@ module _ {X : Type 0} {Sem : X → Type 0} (Derived : (x : X) → Tokens → Sem
   no-deep DeepKid some none (kid y f) x = some y x
 
   module _ (DeepKid : X → Lists) (some : (x : X) → DeepKid x [] → ⊥)
-      (kid_seen : (x : X) (p : Tokens) → DeepKid x p → Viable (Some_of (Derived x)) p)
+      (kid_seen : (x : X) (p : Tokens) → DeepKid x p → HasMore (Some_of (Derived x)) p)
       (none : Bool) where
+    -- the last of the tokens begins a value too deep
     abbrev DeepOf : {A : Type 0} → G X Sem A → Lists
     DeepOf g = Deep Derived DeepKid none g
 
@@ -86,7 +92,7 @@ module _ {X : Type 0} {Sem : X → Type 0} (Derived : (x : X) → Tokens → Sem
 
     -- what is too deep is viable
     pub deep-viable : {A : Type 0} (g : G X Sem A) → OneToken g → (p : Tokens) → DeepOf g p
-        → Viable (Piece g) p
+        → HasMore (Piece g) p
     deep-viable (ret b) l p x = absurd x
     deep-viable (tok begins look f) l p (t, is, e, d) = ([], (f t, (t, ap (λ w. w ++ []) is, e, refl)))
     deep-viable (both f g h) l p x =

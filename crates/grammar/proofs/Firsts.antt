@@ -81,12 +81,15 @@ first-of-links {B = B} {C = C} {D = D} {I = I} p q H K L sh sk sl nh fh eh fk fl
 
 module _ {X : Type 0} {Sem : X → Type 0} (Derived : (x : X) → Tokens → Sem x → Type 0)
     (kid_starts : X → Token → Bool) where
+  -- the tokens are a piece of the grammar, with this tree
   abbrev Tree : {A : Type 0} → G X Sem A → Tokens → A → Type 0
   Tree g = Derives Derived g
 
+  -- a piece begins with the token
   abbrev opens : {A : Type 0} → G X Sem A → Token → Bool
   opens g = starts kid_starts g
 
+  -- the tokens are a piece
   abbrev Piece : {A : Type 0} → G X Sem A → Lists
   Piece g = Some_of (Tree g)
 

@@ -7,12 +7,14 @@ use Rattle.ir_lexer.specs.Tokens.{Token}
 use Rattle.grammar.specs.declared.stop.SyntaxCode.{SyntaxCode}
 use Rattle.grammar.specs.Answers.{IsRefusal}
 use Rattle.grammar.specs.Grammar.{Tokens}
-use Rattle.grammar.specs.Ran.{code_by_class}
+use Rattle.grammar.specs.Ran.{IsCodeOf}
+use Rattle.grammar.proofs.Codes.{code-once}
+use Rattle.grammar.specs.Exact.{HasMore}
 use Rattle.grammar.specs.Front.{Lists, Viable, Barred, Shallow, Some_of, Front, Refused, TooDeep}
 use Rattle.grammar.proofs.Cut.{Split, same, longer, shorter, split}
 
 -- two ends of what may come lie at one place
-ends : (P : Lists) (d f rest more : Tokens) → Viable P d → Viable P f → Barred P d rest
+ends : (P : Lists) (d f rest more : Tokens) → HasMore P d → HasMore P f → Barred P d rest
     → Barred P f more → d ++ rest ≡ f ++ more → (d ≡ f) × (rest ≡ more)
 ends P d f rest more vd vf bd bf e = go (split d rest f more e)
   where
@@ -25,9 +27,9 @@ ends P d f rest more vd vf bd bf e = go (split d rest f more e)
         absurd (bd y (k ++ more) (k ++ vf.0) q
         (subst P (ap (λ w. w ++ vf.0) p ∙ append_assoc d (y ∷ k) vf.0) vf.1))
 
--- a whole piece is viable
+-- a whole piece has more, if only nothing
 whole-viable : {A : Type 0} (R : Tokens → A → Type 0) (d : Tokens) (a : A) → R d a
-    → Viable (Some_of R) d
+    → HasMore (Some_of R) d
 whole-viable R d a r = ([], (a, subst (λ (w : Tokens). R w a) (sym (append-nil d)) r))
 
 module _ {A : Type 0} (R : Tokens → A → Type 0) (D : Lists) where
@@ -45,17 +47,17 @@ module _ {A : Type 0} (R : Tokens → A → Type 0) (D : Lists) where
       → Refused R D ts more → ⊥
   front-or-refused ts a rest more x y =
       let e = ends (Some_of R) x.front y.front rest more
-      (whole-viable R x.front a x.tree) y.viable x.barred y.barred (sym x.is ∙ y.is) in
+      (whole-viable R x.front a x.tree) (y.viable.0, y.viable.2) x.barred y.barred (sym x.is ∙ y.is) in
       y.none (a, subst (λ (w : Tokens). R w a) e.0 x.tree)
 
   -- a list is refused at one place
   pub refused-once : (ts rest more : Tokens) → Refused R D ts rest → Refused R D ts more
       → rest ≡ more
   refused-once ts rest more x y =
-      (ends (Some_of R) x.front y.front rest more x.viable y.viable x.barred y.barred
+      (ends (Some_of R) x.front y.front rest more (x.viable.0, x.viable.2) (y.viable.0, y.viable.2) x.barred y.barred
       (sym x.is ∙ y.is)).1
 
-  module _ (seen : (p : Tokens) → D p → Viable (Some_of R) p) where
+  module _ (seen : (p : Tokens) → D p → HasMore (Some_of R) p) where
     -- what is too deep doesn't stand before a shallow end of what may come
     no-deep-end : (ts d rest more : Tokens) → ts ≡ d ++ rest → Barred (Some_of R) d rest
         → Shallow D d → TooDeep D ts more → ⊥
@@ -66,7 +68,7 @@ module _ {A : Type 0} (R : Tokens → A → Type 0) (D : Lists) where
         all = sym is ∙ y.is ∙ ap (λ w. y.front ++ w) y.at
             ∙ sym (append_assoc y.front (y.next ∷ []) y.more)
 
-        v : Viable (Some_of R) (y.front ++ y.next ∷ [])
+        v : HasMore (Some_of R) (y.front ++ y.next ∷ [])
         v = seen (y.front ++ y.next ∷ []) y.deep
 
         go : Split d rest (y.front ++ y.next ∷ []) y.more → ⊥
@@ -105,7 +107,7 @@ module _ {A : Type 0} (R : Tokens → A → Type 0) (D : Lists) where
 -- ---- refusals
 
 module _ {A : Type 0} (R : Tokens → A → Type 0) (D : Lists)
-    (seen : (p : Tokens) → D p → Viable (Some_of R) p) (ts : Tokens) where
+    (seen : (p : Tokens) → D p → HasMore (Some_of R) p) (ts : Tokens) where
   -- tokens that have a front aren't refused
   pub front-no-refusal : (a : A) (rest : Tokens) (place : ℕ) (code : SyntaxCode)
       → Front R D ts a rest → IsRefusal R D ts place code → ⊥
@@ -121,8 +123,10 @@ module _ {A : Type 0} (R : Tokens → A → Type 0) (D : Lists)
   pub one-refusal : (p q : ℕ) (c e : SyntaxCode) → IsRefusal R D ts p c → IsRefusal R D ts q e
       → (p ≡ q) × (c ≡ e)
   one-refusal p q c e (t, more, at, inl (x, k)) (u, rest, at2, inl (y, k2)) =
-      let same = heads t u more rest (refused-once R D ts (t ∷ more) (u ∷ rest) x y) in
-      (at ∙ ap (λ z. z.place) same ∙ sym at2, k ∙ ap (λ z. code_by_class z.class) same ∙ sym k2)
+      let same = heads t u more rest (refused-once R D ts (t ∷ more) (u ∷ rest) x y) in (
+        at ∙ ap (λ z. z.place) same ∙ sym at2,
+        code-once t.class c e k (subst (λ (z : Token). IsCodeOf z.class e) (sym same) k2),
+      )
   one-refusal p q c e (t, more, at, inr (x, k)) (u, rest, at2, inr (y, k2)) =
       let same = heads t u more rest (deep-once R D ts (t ∷ more) (u ∷ rest) x y) in
       (at ∙ ap (λ z. z.place) same ∙ sym at2, k ∙ sym k2)

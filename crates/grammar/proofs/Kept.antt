@@ -6,8 +6,7 @@ use Rattle.std.proofs.Common.{◌≡◌, ◌≤◌, true, Result, Ok, Err, arith
 use Rattle.ir_lexer.specs.Source.{Source}
 use Rattle.grammar.specs.declared.stop.SyntaxStop.{SyntaxStop}
 use Rattle.grammar.specs.declared.stop.SyntaxStop.TheVariants.{At, Failed, OutOfMemory}
-use Rattle.grammar.specs.Grammar.{Outcome, done, stop}
-use Rattle.grammar.specs.Ran.{Kept, Gives, CallHasCause, GoesOn}
+use Rattle.grammar.specs.Ran.{Kept, CallHasCause, GoesOn}
 
 -- a call that took nothing
 pub kept-same : {A : Type 0} (a : A) (s : Source) → Kept s (Ok a) s
@@ -76,13 +75,3 @@ kept-ok b x =
       steady = x.steady;
       goes_on = x.goes_on;
     }
-
--- a failure says nothing of the tokens
-pub any-failed : {A : Type 0} (o : Outcome A) (s : Source) → Gives o (Err Failed) s
-any-failed (done a ts) s = tt
-any-failed (stop d ts) s = tt
-
--- nor does want of memory
-pub any-memory : {A : Type 0} (o : Outcome A) (s : Source) → Gives o (Err OutOfMemory) s
-any-memory (done a ts) s = tt
-any-memory (stop d ts) s = tt

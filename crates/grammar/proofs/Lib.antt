@@ -7,14 +7,17 @@ pub mod Shrink
 pub mod Firsts
 pub mod Begun
 pub mod Exact
+pub mod Respelled
 pub mod More
 pub mod Check
 pub mod Height
 pub mod Unique
 pub mod Kept
+pub mod Gone
 pub mod Runs
 pub mod Repeats
 pub mod Lists
+pub mod Codes
 pub mod Fronts
 pub mod FlatReads
 pub mod Wholes

@@ -10,7 +10,7 @@ use Rattle.std.proofs.lemmas.Slice.Eq.{bytes_eq-Decides}
 use Rattle.ir_lexer.specs.declared.class.Class.{Class}
 use Rattle.ir_lexer.specs.declared.class.Class.TheVariants.{Word, End}
 use Rattle.ir_lexer.specs.contracts.class.Class.{the_type}
-use Rattle.ir_lexer.specs.Scan.{same_class}
+use Rattle.ir_lexer.specs.Classes.{same_class}
 use Rattle.ir_lexer.specs.Spelling.{Text}
 use Rattle.ir_lexer.specs.Tokens.{Token}
 use Rattle.grammar.specs.Looks.{has_dot, all_digits, is_width, is_width_after, is_integer_word, is_among, Look, any_of, word, other_word, int_word, dotted, undotted, class_of, text_fits, passes, texts_meet, looks_meet, any, meets_one, any_meet, apart}
@@ -121,7 +121,7 @@ both-fit (undotted c) (dotted d) w x y = absurd (no-true (has_dot w) x y)
 both-fit p q w x y = refl
 
 -- a class is the same as itself
-same-self : (c : Class) → same_class c c ≡ true
+pub same-self : (c : Class) → same_class c c ≡ true
 unfolding same_class
 same-self c = true_same the_type c c refl
 
@@ -200,7 +200,7 @@ in-right ps qs t x = any-append ps qs t ∙ true-or (any ps t) (any qs t) x
 -- ---- each look passes some token
 
 -- the length of all texts together
-total : List Text → ℕ
+abbrev pub total : List Text → ℕ
 total [] = 0
 total (w ∷ ws) = length w + total ws
 
@@ -218,8 +218,8 @@ shorter-differs : (t w : Text) (b : Bool) → bytes_eq t w ≡ b → length w < 
 shorter-differs t w true e less = let same = ap length (same-text t w e) in absurd (omega arith)
 shorter-differs t w false e less = refl
 
-longer-is-none : (ws : List Text) (t : Text) → total ws < length t → is_among ws t ≡ false
-unfolding total
+-- a text longer than some together is none of them
+pub longer-is-none : (ws : List Text) (t : Text) → total ws < length t → is_among ws t ≡ false
 longer-is-none [] t less = refl
 longer-is-none (w ∷ ws) t less =
     let one = shorter-differs t w (bytes_eq t w) refl (omega arith) in

@@ -20,6 +20,7 @@ abbrev pub Disjoint : (Token → Bool) → (Token → Bool) → Type 0
 Disjoint p q = (t : Token) → p t ≡ true → q t ≡ true → ⊥
 
 module _ {X : Type 0} {Sem : X → Type 0} (kid_starts kid_more : X → Token → Bool) where
+  -- a piece begins with the token
   abbrev opens : {A : Type 0} → G X Sem A → Token → Bool
   opens g = starts kid_starts g
 
@@ -55,6 +56,7 @@ module _ {X : Type 0} {Sem : X → Type 0} (kid_starts kid_more : X → Token �
   module _ (Derived : (x : X) → Tokens → Sem x → Type 0) (kids : Kids Derived kid_starts)
       (kid_goes : (x : X) (d : Tokens) (y : Token) (e : Tokens) (a b : Sem x) → Derived x d a
       → Derived x (d ++ y ∷ e) b → kid_more x y ≡ true) where
+    -- the tokens are a piece of the grammar, with this tree
     abbrev Tree : {A : Type 0} → G X Sem A → Tokens → A → Type 0
     Tree g = Derives Derived g
 

@@ -10,20 +10,44 @@
 --   at-tok                             a token
 --   took-token, took-refused, ..       one token, by the test and the step
 --   exit                               what the exit of a `?` hands on
-use Rattle.std.proofs.Common.{◌≡◌, ◌≢◌, ℕ, ◌+◌, ◌≤◌, ◌<◌, Bool, true, false, ◌&&◌, ◌||◌, List, [], ◌∷◌, Some, Result, Ok, Err, OnOk, if◌then◌else◌, arith, refl, sym, ap}
+use Rattle.std.proofs.Common.{◌≡◌, ◌≢◌, ℕ, ◌+◌, ◌≤◌, ◌<◌, Bool, true, false, ◌&&◌, ◌||◌, List, [], ◌∷◌, ◌++◌, Some, Result, Ok, Err, OnOk, if◌then◌else◌, arith, refl, sym, ◌∙◌, ap, append_assoc}
 use Rattle.std.specs.Result.{IsErr, IsErrAnd}
 use Rattle.std.proofs.lemmas.Result.{err_from_is_err_and}
 use Rattle.ir_lexer.specs.declared.class.Class.TheVariants as class
 use Rattle.ir_lexer.specs.declared.source.TokenStop.{TokenStop}
 use Rattle.ir_lexer.specs.declared.source.TokenStop.TheVariants as source
-use Rattle.ir_lexer.specs.Source.{Source, Advances}
+use Rattle.ir_lexer.specs.Source.{Source, IsInOrder, Advances}
 use Rattle.ir_lexer.specs.Tokens.{Token}
 use Rattle.grammar.specs.declared.stop.SyntaxStop.{SyntaxStop}
 use Rattle.grammar.specs.declared.stop.SyntaxStop.TheVariants.{At, Failed, OutOfMemory}
 use Rattle.grammar.specs.Looks.{Look, passes}
 use Rattle.grammar.specs.Grammar.{Tokens, Parser, Outcome, done, stop, and_then, ◌>>=◌, pure, read_tok, G, ret, tok, both, alt, made, placed, nullable, starts}
-use Rattle.grammar.specs.Ran.{Ran, Gives, CallHasCause, GoesOn, handed_on, code_by_class, Env, reads_in, size, Took, Reads, RefusesBy}
-use Rattle.grammar.proofs.Kept.{kept-same, kept-then, kept-err, kept-ok, any-failed, any-memory}
+use Rattle.grammar.specs.Ran.{GoneOver, HasRead, HasStopped, Went, Ran, CallHasCause, GoesOn, handed_on, code_by_class, Env, reads_in, size, Took, Reads, RefusesBy}
+use Rattle.grammar.proofs.Gone.{gone-none, gone-one, gone-then, head-is, place-is}
+use Rattle.grammar.proofs.Kept.{kept-same, kept-then, kept-err, kept-ok}
+
+-- ---- the same on other readers
+
+-- a reader that does the same on the tokens gone over answers the same
+pub went-as : {A : Type 0} (p q : Parser A) {s s' : Source} (r : Result A SyntaxStop)
+    → ((front : Tokens) → GoneOver s front s' → (rest : Tokens)
+    → q (front ++ s'.now ∷ rest) ≡ p (front ++ s'.now ∷ rest))
+    → Went p s r s' → Went q s r s'
+went-as p q (Ok a) same x = record {
+  front = x.front;
+  gone = x.gone;
+  reads = λ rest. same x.front x.gone rest ∙ x.reads rest;
+}
+went-as p q (Err (At place c)) same x = record {
+  front = x.front;
+  gone = x.gone;
+  deep = x.deep;
+  place_is = x.place_is;
+  code_is = x.code_is;
+  stops = λ rest. same x.front x.gone rest ∙ x.stops rest;
+}
+went-as p q (Err Failed) same x = tt
+went-as p q (Err OutOfMemory) same x = tt
 
 -- ---- want of memory
 
@@ -34,7 +58,7 @@ memory k p s =
       kept =
           record { faults = omega arith; cause = tt; origin = refl; steady = λ h. h; goes_on = tt };
       less = tt;
-      told = λ ts _. any-memory _ s;
+      went = tt;
     }
 
 -- ---- one token
@@ -52,24 +76,22 @@ tok-refused test f s e h is = rw is (record {
     goes_on = refl;
   };
   less = tt;
-  told = λ ts _. rw h (refl, refl);
+  went = record {
+    front = [];
+    gone = gone-none s;
+    deep = false;
+    place_is = refl;
+    code_is = refl;
+    stops = λ rest. rw h refl;
+  };
 })
-
--- behind the token the source stands before the next one
-tok-stands : {A : Type 0} (test : Token → Bool) (f : Token → A) (s s' : Source) (ts : Tokens)
-    → test s.now ≡ true → (s.later ≡ Some [] → s.now.class ≡ class.End) → s.now.class ≢ class.End
-    → ((t : Token) (more : List Token) → s.later ≡ Some (t ∷ more)
-    → (s'.now ≡ t) × (s'.later ≡ Some more))
-    → s.later ≡ Some ts → Gives (read_tok false test f (s.now ∷ ts)) (Ok (f s.now)) s'
-tok-stands test f s s' [] h ends other told is = absurd (other (ends is))
-tok-stands test f s s' (t ∷ ts) h ends other told is = rw h (refl, told t ts is)
 
 -- the present token passes the test and is taken
 pub tok-taken : {A : Type 0} (test : Token → Bool) (f : Token → A) (s s' : Source) (u : Unit {0})
-    → test s.now ≡ true → (s.later ≡ Some [] → s.now.class ≡ class.End) → s.now.class ≢ class.End
-    → Advances s (Ok u) s'
+    → test s.now ≡ true → IsInOrder s → (s.later ≡ Some [] → s.now.class ≡ class.End)
+    → s.now.class ≢ class.End → Advances s (Ok u) s'
     → Ran 1 (read_tok false test f) s (Ok (f s.now)) s'
-tok-taken test f s s' u h ends other a = record {
+tok-taken test f s s' u h order ends other a = record {
   kept = record {
     faults = a.faults;
     cause = tt;
@@ -78,7 +100,11 @@ tok-taken test f s s' u h ends other a = record {
     goes_on = a.goes_on;
   };
   less = let l : s'.left < s.left = (a.less other).0 in omega arith;
-  told = λ ts is. tok-stands test f s s' ts h ends other a.told is;
+  went = record {
+    front = s.now ∷ [];
+    gone = gone-one order ends other a;
+    reads = λ rest. rw h refl;
+  };
 }
 
 -- a step that failed has its cause
@@ -93,10 +119,10 @@ failed-goes-on A s s' source.Failed = tt
 failed-goes-on A s s' source.OutOfMemory = tt
 
 -- and says nothing of the tokens
-failed-told : {A : Type 0} (o : Outcome A) (s : Source) (x : TokenStop)
-    → Gives o (Err (handed_on x)) s
-failed-told o s source.Failed = any-failed o s
-failed-told o s source.OutOfMemory = any-memory o s
+failed-went : {A : Type 0} (p : Parser A) (s s' : Source) (x : TokenStop)
+    → Went p s (Err (handed_on x)) s'
+failed-went p s s' source.Failed = tt
+failed-went p s s' source.OutOfMemory = tt
 
 -- a step that failed
 pub failed-with : {A : Type 0} (k : ℕ) (p : Parser A) (s s' : Source) (x : TokenStop)
@@ -110,19 +136,43 @@ failed-with {A = A} k p s s' x a = record {
     goes_on = failed-goes-on A s s' x;
   };
   less = tt;
-  told = λ ts _. failed-told _ s' x;
+  went = failed-went p s s' x;
 }
 
 -- ---- steps
 
--- the tokens before which a source that told its tokens stands
-next-told : {A B : Type 0} (o : Outcome A) (k : A → Parser B) (a : A) (s1 s2 : Source)
-    (r : Result B SyntaxStop)
-    → Gives o (Ok a) s1 → ((ts : Tokens) → s1.later ≡ Some ts → Gives (k a (s1.now ∷ ts)) r s2)
-    → Gives (and_then o k) r s2
-next-told (done b []) k a s1 s2 r g h = absurd g.1
-next-told (done b (t ∷ ts)) k a s1 s2 r g h = rw (sym g.0, sym g.1.0) (h ts g.1.1)
-next-told (stop d ts) k a s1 s2 r g h = absurd g
+-- the reader of two steps, on tokens of which the first reads its part
+then-is : {A B : Type 0} (p : Parser A) (f : A → Parser B) (a : A) (s1 s2 : Source)
+    (front back : Tokens) (rest : Tokens)
+    → ((more : Tokens) → p (front ++ s1.now ∷ more) ≡ done a (s1.now ∷ more)) → GoneOver s1 back s2
+    → and_then (p ((front ++ back) ++ s2.now ∷ rest)) f ≡ f a (back ++ s2.now ∷ rest)
+then-is p f a s1 s2 front back rest reads y =
+    let next = y.begins rest in
+    let first = append_assoc front back (s2.now ∷ rest) ∙ ap (λ w. front ++ w) next.1 in
+    ap (λ w. and_then (p w) f) first
+    ∙ ap (λ o. and_then o f) (reads next.0)
+    ∙ ap (f a) (sym next.1)
+
+-- what the second step answers, both do
+went-then : {A B : Type 0} (p : Parser A) (f : A → Parser B) (a : A) (s0 s1 s2 : Source)
+    (r : Result B SyntaxStop) → HasRead p s0 a s1 → Went (f a) s1 r s2 → Went (p >>= f) s0 r s2
+went-then p f a s0 s1 s2 (Ok b) x y = record {
+  front = x.front ++ y.front;
+  gone = gone-then x.front y.front x.gone y.gone;
+  reads = λ rest.
+      then-is p f a s1 s2 x.front y.front rest x.reads y.gone ∙ y.reads rest;
+}
+went-then p f a s0 s1 s2 (Err (At place c)) x y = record {
+  front = x.front ++ y.front;
+  gone = gone-then x.front y.front x.gone y.gone;
+  deep = y.deep;
+  place_is = y.place_is;
+  code_is = y.code_is;
+  stops = λ rest.
+      then-is p f a s1 s2 x.front y.front rest x.reads y.gone ∙ y.stops rest;
+}
+went-then p f a s0 s1 s2 (Err Failed) x y = tt
+went-then p f a s0 s1 s2 (Err OutOfMemory) x y = tt
 
 -- what two steps took together
 less-then : {B : Type 0} (r : Result B SyntaxStop) (k m n a b c : ℕ) → n ≤ k + m → k + b ≤ a
@@ -137,18 +187,22 @@ pub bind-ok : {A B : Type 0} (k m n : ℕ) (p : Parser A) (f : A → Parser B) (
 bind-ok k m n p f a s0 s1 s2 r few x y = record {
   kept = kept-then x.kept y.kept;
   less = less-then r k m n s0.left s1.left s2.left few x.less y.less;
-  told = λ ts is. next-told (p (s0.now ∷ ts)) f a s1 s2 r (x.told ts is) y.told;
+  went = went-then p f a s0 s1 s2 r x.went y.went;
 }
 
 -- what the reader of a part refuses, the reader of the whole does
-pub err-told : {A B : Type 0} (o : Outcome A) (k : A → Parser B) (e : SyntaxStop) (s : Source)
-    → Gives o (Err e) s → Gives (and_then o k) (Err e) s
-err-told (done a ts) k (At place c) s g = absurd g
-err-told (done a ts) k Failed s g = any-failed (k a ts) s
-err-told (done a ts) k OutOfMemory s g = any-memory (k a ts) s
-err-told (stop d ts) k (At place c) s g = g
-err-told (stop d ts) k Failed s g = tt
-err-told (stop d ts) k OutOfMemory s g = tt
+pub err-went : {A B : Type 0} (p : Parser A) (k : A → Parser B) (e : SyntaxStop) (s s' : Source)
+    → Went p s (Err e) s' → Went (p >>= k) s (Err e) s'
+err-went p k (At place c) s s' x = record {
+  front = x.front;
+  gone = x.gone;
+  deep = x.deep;
+  place_is = x.place_is;
+  code_is = x.code_is;
+  stops = λ rest. ap (λ o. and_then o k) (x.stops rest);
+}
+err-went p k Failed s s' x = tt
+err-went p k OutOfMemory s s' x = tt
 
 -- a step that did not go well
 pub bind-err : {A B : Type 0} (k n : ℕ) (p : Parser A) (f : A → Parser B) (e : SyntaxStop)
@@ -157,13 +211,17 @@ pub bind-err : {A B : Type 0} (k n : ℕ) (p : Parser A) (f : A → Parser B) (e
 bind-err k n p f e s0 s1 x = record {
   kept = kept-err x.kept;
   less = tt;
-  told = λ ts is. err-told (p (s0.now ∷ ts)) f e s1 (x.told ts is);
+  went = err-went p f e s0 s1 x.went;
 }
 
 -- no step
 pub pure-ran : {A : Type 0} (a : A) (s : Source) → Ran 0 (pure a) s (Ok a) s
 pure-ran a s =
-    record { kept = kept-same a s; less = omega arith; told = λ ts is. (refl, (refl, is)) }
+    record {
+      kept = kept-same a s;
+      less = omega arith;
+      went = record { front = []; gone = gone-none s; reads = λ rest. refl };
+    }
 
 -- ---- exits
 
@@ -181,33 +239,63 @@ took-exit {r = r} h q = let e = err_from_is_err_and r h.1 in rw (e.1, e.2) q
 
 -- ---- a token that stands for something else
 
--- what is answered of a token does not depend on what it stands for
-tok-other : {A B : Type 0} (c : Bool) (a : A) (b : B) (t : Token) (ts : Tokens)
-    (r : Result A SyntaxStop) (q : Result B SyntaxStop) (s : Source)
-    → ((x : A) → r ≡ Ok x → q ≡ Ok b) → ((e : SyntaxStop) → r ≡ Err e → q ≡ Err e)
-    → Gives (if c then done a ts else stop false (t ∷ ts)) r s
-    → Gives (if c then done b ts else stop false (t ∷ ts)) q s
-tok-other true a b t ts (Ok x) q s ok err g = rw (ok x refl) (refl, g.1)
-tok-other true a b t ts (Err (At p k)) q s ok err g = absurd g
-tok-other true a b t ts (Err Failed) q s ok err g = rw (err Failed refl) tt
-tok-other true a b t ts (Err OutOfMemory) q s ok err g = rw (err OutOfMemory refl) tt
-tok-other false a b t ts (Ok x) q s ok err g = absurd g
-tok-other false a b t ts (Err (At p k)) q s ok err g = rw (err (At p k) refl) g
-tok-other false a b t ts (Err Failed) q s ok err g = rw (err Failed refl) tt
-tok-other false a b t ts (Err OutOfMemory) q s ok err g = rw (err OutOfMemory refl) tt
+-- whether a token is read does not depend on what it stands for
+tok-read : {A B : Type 0} (c : Bool) (a x : A) (b : B) (t : Token) (ts rest : Tokens)
+    → (if c then done a ts else stop false (t ∷ ts)) ≡ done x rest
+    → (if c then done b ts else stop false (t ∷ ts)) ≡ done b rest
+tok-read true a x b t ts rest e = cc
+tok-read false a x b t ts rest e = absurd (cc)
+
+tok-stopped : {A B : Type 0} (c d : Bool) (a : A) (b : B) (t : Token) (ts rest : Tokens)
+    → (if c then done a ts else stop false (t ∷ ts)) ≡ stop d rest
+    → (if c then done b ts else stop false (t ∷ ts)) ≡ stop d rest
+tok-stopped true d a b t ts rest e = absurd (cc)
+tok-stopped false d a b t ts rest e = cc
+
+-- the reader of a token that stands for something else, on tokens of which the first is known
+tok-other : {A B : Type 0} (test : Token → Bool) (f : Token → A) (h : Token → B) (a : A)
+    (t : Token) (more w rest : Tokens) → w ≡ t ∷ more → read_tok false test f w ≡ done a rest
+    → read_tok false test h w ≡ done (h t) rest
+tok-other test f h a t more w rest is e =
+    rw is (tok-read (test t) (f t) a (h t) t more rest (rw is at e))
+
+tok-other-stop : {A B : Type 0} (test : Token → Bool) (f : Token → A) (h : Token → B) (d : Bool)
+    (t : Token) (more w rest : Tokens) → w ≡ t ∷ more → read_tok false test f w ≡ stop d rest
+    → read_tok false test h w ≡ stop d rest
+tok-other-stop test f h d t more w rest is e =
+    rw is (tok-stopped (test t) d (f t) (h t) t more rest (rw is at e))
 
 -- the same token, which stands for something else
 pub took-ok : {A B : Type 0} {test : Token → Bool} {f : Token → A} {a : A} {b : B} {s s' : Source}
     (h : Token → B)
     → b ≡ h s.now → Took test f s (Ok a) s' → Took test h s (Ok b) s'
-took-ok {test = test} {f = f} {a = a} {b = b} {s = s} {s' = s'} h e x = record {
+took-ok {test = test} {f = f} {a = a} {b = b} {s = s} {s' = s'} h e x = rw e (record {
   ran = record {
-    kept = kept-ok b x.ran.kept;
+    kept = kept-ok (h s.now) x.ran.kept;
     less = x.ran.less;
-    told = λ ts is. tok-other (test s.now) (f s.now) (h s.now) s.now ts (Ok a) (Ok b) s'
-        (λ y _. ap (λ z. Ok z) e) (λ y q. absurd (cc)) (x.ran.told ts is);
+    went = record {
+      front = x.ran.went.front;
+      gone = x.ran.went.gone;
+      reads = λ rest. let b = x.ran.went.gone.begins rest in
+          tok-other test f h a s.now b.0 _ (s'.now ∷ rest) b.1 (x.ran.went.reads rest);
+    };
   };
+})
+
+err-other : {A B : Type 0} (test : Token → Bool) (f : Token → A) (h : Token → B) (e : SyntaxStop)
+    (s s' : Source) → Went (read_tok false test f) s (Err e) s'
+    → Went (read_tok false test h) s (Err e) s'
+err-other test f h (At place c) s s' x = record {
+  front = x.front;
+  gone = x.gone;
+  deep = x.deep;
+  place_is = x.place_is;
+  code_is = x.code_is;
+  stops = λ rest. let b = x.gone.begins rest in
+      tok-other-stop test f h x.deep s.now b.0 _ (s'.now ∷ rest) b.1 (x.stops rest);
 }
+err-other test f h Failed s s' x = tt
+err-other test f h OutOfMemory s s' x = tt
 
 -- the same refusal, of a token that stands for something else
 pub took-err : {A B : Type 0} {test : Token → Bool} {f : Token → A} {h : Token → B} {e : SyntaxStop}
@@ -217,19 +305,18 @@ took-err {test = test} {f = f} {h = h} {e = why} {s = s} {s' = s'} x = record {
   ran = record {
     kept = kept-err x.ran.kept;
     less = tt;
-    told = λ ts is. tok-other (test s.now) (f s.now) (h s.now) s.now ts (Err why) (Err why) s'
-        (λ y q. absurd (cc)) (λ y q. cc) (x.ran.told ts is);
+    went = err-other test f h why s s' x.ran.went;
   };
 }
 
 -- the present token, which passes the test
 pub took-token : {A : Type 0} {test : Token → Bool} {f : Token → A} {a : A} {u : Unit {0}}
     {s s' : Source}
-    → test s.now ≡ true → (s.later ≡ Some [] → s.now.class ≡ class.End) → s.now.class ≢ class.End
-    → a ≡ f s.now → Advances s (Ok u) s'
+    → test s.now ≡ true → IsInOrder s → (s.later ≡ Some [] → s.now.class ≡ class.End)
+    → s.now.class ≢ class.End → a ≡ f s.now → Advances s (Ok u) s'
     → Took test f s (Ok a) s'
-took-token {test = test} {f = f} {u = u} {s = s} {s' = s'} passed ends other is step =
-    rw is (record { ran = tok-taken test f s s' u passed ends other step })
+took-token {test = test} {f = f} {u = u} {s = s} {s' = s'} passed order ends other is step =
+    rw is (record { ran = tok-taken test f s s' u passed order ends other step })
 
 -- a token that is refused
 pub took-refused : {A : Type 0} {test : Token → Bool} {f : Token → A} {e : SyntaxStop} {s : Source}
@@ -280,11 +367,9 @@ few-alt true false = (omega arith, omega arith)
 few-alt false true = (omega arith, omega arith)
 few-alt false false = (omega arith, omega arith)
 
--- a piece with its place
-placed-told : {A B : Type 0} (f : ℕ → B → A) (p : ℕ) (o : Outcome B) (b : B) (s : Source)
-    → Gives o (Ok b) s → Gives (and_then o (λ b. pure (f p b))) (Ok (f p b)) s
-placed-told f p (done c rest) b s g = (ap (λ y. f p y) g.0, g.1)
-placed-told f p (stop d rest) b s g = absurd g
+-- a choice by a test of the first token
+pick : {A : Type 0} (c b : Bool) (x y : A) → c ≡ b → (if c then x else y) ≡ (if b then x else y)
+pick c b x y e = rw e refl
 
 module _ {X : Type 0} {Sem : X → Type 0} {e : Env X Sem} where
   -- a token is a piece of its own
@@ -338,7 +423,8 @@ module _ {X : Type 0} {Sem : X → Type 0} {e : Env X Sem} where
     ran = record {
       kept = x.ran.kept;
       less = more-ok r (size g) _ s.left s'.left (few-alt (nullable g) (nullable h)).0 x.ran.less;
-      told = λ ts is. rw begin (x.ran.told ts is);
+      went = went-as _ _ r (λ front y rest.
+          pick _ true _ _ (head-is (starts e.begins g) y rest ∙ begin)) x.ran.went;
     };
   }
 
@@ -350,7 +436,8 @@ module _ {X : Type 0} {Sem : X → Type 0} {e : Env X Sem} where
     ran = record {
       kept = x.ran.kept;
       less = more-ok r (size h) _ s.left s'.left (few-alt (nullable g) (nullable h)).1 x.ran.less;
-      told = λ ts is. rw begin (x.ran.told ts is);
+      went = went-as _ _ r (λ front y rest.
+          pick _ false _ _ (head-is (starts e.begins g) y rest ∙ begin)) x.ran.went;
     };
   }
 
@@ -383,7 +470,11 @@ module _ {X : Type 0} {Sem : X → Type 0} {e : Env X Sem} where
     ran = record {
       kept = kept-ok (f s.now.place b) x.ran.kept;
       less = x.ran.less;
-      told = λ ts is. placed-told f s.now.place (reads_in e g (s.now ∷ ts)) b s' (x.ran.told ts is);
+      went = went-as _ _ (Ok (f s.now.place b))
+          (λ front y rest. ap (λ n. and_then (reads_in e g (front ++ s'.now ∷ rest))
+          (λ b. pure (f n b))) (place-is y rest))
+          (went-then (reads_in e g) (λ b. pure (f s.now.place b)) b s s' s' (Ok (f s.now.place b))
+          x.ran.went (record { front = []; gone = gone-none s'; reads = λ rest. refl }));
     };
   }
 
@@ -395,6 +486,9 @@ module _ {X : Type 0} {Sem : X → Type 0} {e : Env X Sem} where
     ran = record {
       kept = kept-err x.ran.kept;
       less = tt;
-      told = λ ts is. err-told (reads_in e g (s.now ∷ ts)) _ why s' (x.ran.told ts is);
+      went = went-as _ _ (Err why)
+          (λ front y rest. ap (λ n. and_then (reads_in e g (front ++ s'.now ∷ rest))
+          (λ b. pure (f n b))) (place-is y rest))
+          (err-went (reads_in e g) (λ b. pure (f s.now.place b)) why s s' x.ran.went);
     };
   }

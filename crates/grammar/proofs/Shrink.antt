@@ -169,6 +169,7 @@ module _ {B C D I : Type 0} (p : B → C → I) (q : B → D → I) (begins body
 
 module _ {X : Type 0} {Sem : X → Type 0} (kid_starts : X → Token → Bool)
     (kid_at : (x : X) → Parser (Sem x)) (none : Bool) (kid_takes : (x : X) → Takes (kid_at x)) where
+  -- how many tokens a piece has at least
   abbrev size : {A : Type 0} → G X Sem A → ℕ
   size g = if nullable g then 0 else 1
 

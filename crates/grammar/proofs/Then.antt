@@ -5,7 +5,8 @@
 use Rattle.std.proofs.Common.{◌≡◌, ℕ, true, false, [], ◌∷◌, ◌++◌, ◌⊎◌, inl, inr, refl, sym, ◌∙◌, ap, subst, append_assoc}
 use Rattle.ir_lexer.specs.Tokens.{Token}
 use Rattle.grammar.specs.Grammar.{Tokens, Parser, Outcome, done, stop, and_then, ◌>>=◌, pure, place_of}
-use Rattle.grammar.specs.Front.{Lists, Viable, Barred, Shallow, Some_of, Front, IsExactAnswer}
+use Rattle.grammar.specs.Exact.{HasMore, IsExactAnswer}
+use Rattle.grammar.specs.Front.{Lists, Barred, Shallow, Some_of, Front}
 use Rattle.grammar.proofs.Cut.{Joined, Deeper, barred-second, none-second, shallow-second, barred-first, none-first, shallow-first}
 
 -- no token goes on with a piece of the one and begins a piece of the other
@@ -24,8 +25,8 @@ shallow-in h d s p q is x = s p q is (h p x)
 
 module _ {A B C : Type 0} (f : B → C → A) (R : Tokens → B → Type 0) (S : Tokens → C → Type 0)
     (DR DS : Lists)
-    (apart : Apart (Some_of R) (Some_of S)) (seen : (p : Tokens) → DR p → Viable (Some_of R) p)
-    (next_seen : (p : Tokens) → DS p → Viable (Some_of S) p)
+    (apart : Apart (Some_of R) (Some_of S)) (seen : (p : Tokens) → DR p → HasMore (Some_of R) p)
+    (next_seen : (p : Tokens) → DS p → HasMore (Some_of S) p)
     (some : DS [] → ⊥) (sample : (ts : Tokens) × Some_of S ts) where
   -- a piece of the first and then one of the second, with the tree of both
   abbrev pub Both : Tokens → A → Type 0
@@ -45,13 +46,13 @@ module _ {A B C : Type 0} (f : B → C → A) (R : Tokens → B → Type 0) (S :
   to-deeper w (inl x) = inl x
   to-deeper w (inr (front, back, b, is, r, x)) = inr (front, back, is, (b, r), x)
 
-  viable-second : (d1 d2 : Tokens) (b : B) → R d1 b → Viable (Some_of S) d2
-      → Viable (Some_of Both) (d1 ++ d2)
+  viable-second : (d1 d2 : Tokens) (b : B) → R d1 b → HasMore (Some_of S) d2
+      → HasMore (Some_of Both) (d1 ++ d2)
   viable-second d1 d2 b r (more, (c, s)) =
       (more, (f b c, (d1, d2 ++ more, b, c, append_assoc d1 d2 more, r, s, refl)))
 
   -- what goes on to the first goes on to both
-  pub viable-first : (d : Tokens) → Viable (Some_of R) d → Viable (Some_of Both) d
+  pub viable-first : (d : Tokens) → HasMore (Some_of R) d → HasMore (Some_of Both) d
   viable-first d (more, (b, r)) = (
     more ++ sample.0,
     (
@@ -70,10 +71,10 @@ module _ {A B C : Type 0} (f : B → C → A) (R : Tokens → B → Type 0) (S :
   )
 
   -- what is too deep in one of both is viable
-  pub deep-both-seen : (p : Tokens) → DeepBoth p → Viable (Some_of Both) p
+  pub deep-both-seen : (p : Tokens) → DeepBoth p → HasMore (Some_of Both) p
   deep-both-seen p (inl x) = viable-first p (seen p x)
   deep-both-seen p (inr (front, back, b, is, r, x)) =
-      subst (λ (l : Tokens). Viable (Some_of Both) l) (sym is)
+      subst (λ (l : Tokens). HasMore (Some_of Both) l) (sym is)
       (viable-second front back b r (next_seen back x))
 
   -- behind the first piece
@@ -155,7 +156,7 @@ module _ {A B C : Type 0} (f : B → C → A) (R : Tokens → B → Type 0) (S :
   }
   then-meets ts (stop true rest) q x y =
       let v = seen (x.front ++ x.next ∷ []) x.deep in
-      let viable : Viable (Some_of R) x.front =
+      let viable : HasMore (Some_of R) x.front =
       (x.next ∷ v.0, subst (Some_of R) (append_assoc x.front (x.next ∷ []) v.0) v.1) in
       record {
         front = x.front;

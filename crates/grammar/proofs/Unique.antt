@@ -17,12 +17,15 @@ use Rattle.grammar.proofs.Choice.{empty-parts}
 module _ {X : Type 0} {Sem : X → Type 0} (kid_starts : X → Token → Bool)
     (Derived : (x : X) → Tokens → Sem x → Type 0) (kids : Kids Derived kid_starts)
     (kid_one : (x : X) (d : Tokens) (a b : Sem x) → Derived x d a → Derived x d b → a ≡ b) where
+  -- the tokens are a piece of the grammar, with this tree
   abbrev Tree : {A : Type 0} → G X Sem A → Tokens → A → Type 0
   Tree g = Derives Derived g
 
+  -- a piece begins with the token
   abbrev opens : {A : Type 0} → G X Sem A → Token → Bool
   opens g = starts kid_starts g
 
+  -- one token decides at each place
   abbrev OneToken : {A : Type 0} → G X Sem A → Type 0
   OneToken g = IsOneToken Derived kid_starts g
 

@@ -1,15 +1,32 @@
 -- What it is to read a front of a token list.
-use Rattle.std.specs.Prelude.{◌≡◌, true, false, [], ◌∷◌, ◌++◌}
+--
+-- A token that no bytes can give never makes a place later: what may come behind a front are tokens
+-- whose texts spell their classes.
+--
+--   AreSpelled ts        the texts of these tokens spell their classes
+--   Viable P ts          some list of the set P begins with ts, and goes on with such tokens
+--   Barred P front rest  no list of P begins with the front and one token more
+--   Shallow D ts         no front of ts is in the set D
+--   Front R D ts a rest  a front of ts is a piece with the tree a, and ends before rest
+--   Refused R D ts rest  the tokens before rest go on in no piece with the token there
+--   TooDeep D ts rest    the token there begins a value too deep
+use Rattle.std.specs.Prelude.{◌≡◌, [], ◌∷◌, ◌++◌}
+use Rattle.std.specs.List.{AllByRecursion}
+use Rattle.ir_lexer.specs.Source.{IsToken}
 use Rattle.ir_lexer.specs.Tokens.{Token}
-use Rattle.grammar.specs.Grammar.{Tokens, Outcome, done, stop}
+use Rattle.grammar.specs.Grammar.{Tokens}
 
 -- a set of token lists
 abbrev pub Lists : Type 1
 Lists = Tokens → Type 0
 
--- some list of the set begins with these tokens
+-- tokens whose texts spell their classes
+abbrev pub AreSpelled : Lists
+AreSpelled ts = AllByRecursion IsToken ts
+
+-- some list of the set begins with these tokens, and goes on with tokens that bytes can give
 abbrev pub Viable : Lists → Lists
-Viable P ts = (more : Tokens) × P (ts ++ more)
+Viable P ts = (more : Tokens) × AreSpelled more × P (ts ++ more)
 
 -- no list of the set begins with the front and one token more
 abbrev pub Barred : Lists → Tokens → Tokens → Type 0
@@ -53,9 +70,3 @@ pub record TooDeep (D : Lists) (ts rest : Tokens) : Type 0 where
   pub is : ts ≡ front ++ rest
   pub deep : D (front ++ next ∷ [])
   pub shallow : Shallow D front
-
--- what the answer of a reader says
-abbrev pub IsExactAnswer : {A : Type 0} → (Tokens → A → Type 0) → Lists → Tokens → Outcome A → Type 0
-IsExactAnswer R D ts (done a rest) = Front R D ts a rest
-IsExactAnswer R D ts (stop false rest) = Refused R D ts rest
-IsExactAnswer R D ts (stop true rest) = TooDeep D ts rest

@@ -1,6 +1,7 @@
 pub mod Answers
 pub mod Flat
 pub mod Front
+pub mod Exact
 pub mod Grammar
 pub mod Looks
 pub mod Ran

@@ -3,11 +3,12 @@
 //! Each reader of a grammar is made of these steps and of readers of smaller grammars. What a step
 //! owes is stated once, in `specs/Ran.antt`.
 
-ghost use Rattle.std.specs.Prelude.{◌≡◌, ◌≢◌, true, false, Err};
-ghost use Rattle.ir_lexer.specs.Scan as lexer;
+ghost use Rattle.std.specs.Prelude.{◌≡◌, ◌≢◌, ◌↔◌, IsTrue, true, false, Err};
+ghost use Rattle.ir_lexer.specs.Classes as lexer;
+ghost use Rattle.ir_lexer.specs.Source.{IsInOrder};
 ghost use Rattle.grammar.specs.Looks.{any_of, passes};
 ghost use Rattle.grammar.specs.Looks as look;
-ghost use Rattle.grammar.specs.Ran.{Took, IsAtEnd, RefusesBy, code_by_class};
+ghost use Rattle.grammar.specs.Ran.{Took, IsAtEnd, RefusesBy, RefusesToken};
 
 use crate::stop::{SyntaxCode, SyntaxStop};
 use crate::word::is_integer_word;
@@ -24,29 +25,32 @@ fn same_class(a: Class, b: Class) -> bool
 
 /// Whether the present token is of this class.
 pub fn is_class<T: TokenSource>(t: &T, kind: Class) -> bool
-    ensures { result ≡ passes (any_of kind) (T.state t.now).now }
+    ensures class { IsTrue result ↔ ((T.state t.now).now.class ≡ kind) }
+    ensures passes { result ≡ passes (any_of kind) (T.state t.now).now }
+    ensures order { IsInOrder (T.state t.now) }
 {
     same_class(t.class(), kind)
 }
 
 /// Whether the present token is this word.
 pub fn is_word<T: TokenSource>(t: &T, word: &[u8]) -> bool
-    ensures { result ≡ passes (look.word word.now) (T.state t.now).now }
+    ensures passes { result ≡ passes (look.word word.now) (T.state t.now).now }
+    ensures order { IsInOrder (T.state t.now) }
 {
     is_class(t, Class::Word) && t.text() == word
 }
 
 /// Whether the present token is the name of an integer type.
 pub fn is_integer_type<T: TokenSource>(t: &T) -> bool
-    ensures { result ≡ passes look.int_word (T.state t.now).now }
+    ensures passes { result ≡ passes look.int_word (T.state t.now).now }
+    ensures order { IsInOrder (T.state t.now) }
 {
     is_class(t, Class::Word) && is_integer_word(t.text())
 }
 
 /// The refusal of the present token: no text has it at its place.
 pub fn refused<T: TokenSource>(t: &T) -> SyntaxStop
-    ensures { let token = (T.state t.now).now in
-        result ≡ SyntaxStop.At token.place (code_by_class token.class) }
+    ensures { RefusesToken (T.state t.now).now result }
 {
     let code = match t.class() {
         Class::Float => SyntaxCode::Float,

@@ -10,7 +10,8 @@ use Rattle.ir_lexer.specs.declared.table.TheConstants.{COLUMNS, STATES, START}
 use Rattle.ir_lexer.specs.Signs.{tab, line_feed, carriage_return, space, slash}
 use Rattle.ir_lexer.specs.Spelling.{Text, never, Fits, Spells, spelling}
 use Rattle.ir_lexer.specs.Tokens.{Token, is_blank, layout_len, NoneFrom, IsFront, IsNext, AreTokensFrom}
-use Rattle.ir_lexer.specs.Scan.{step, next, column, is_whole, class_at, same_class}
+use Rattle.ir_lexer.specs.Scan.{step, next, column, is_whole, class_at}
+use Rattle.ir_lexer.specs.Classes.{same_class}
 use Rattle.ir_lexer.specs.Written.{EndsAt, NoneLonger, Piece, IsGap, text_of_pieces, AreApart, placed, may_join}
 use Rattle.ir_lexer.proofs.Derive.{behind, behind-in, behind-alike, and-both}
 use Rattle.ir_lexer.proofs.Longest.{none-empty}
@@ -31,18 +32,22 @@ begins_not class k = same (behind (get_or samples k 0) (spelling class)) never
 abbrev pub are_apart : Class → Class → Bool
 are_apart a b = upto COLUMNS (λ k. begins_not b k || ends a k)
 
+-- from a true `not a || b`, where a is true, b is
 pub implied : (a b : Bool) → (not a || b) ≡ true → a ≡ true → b ≡ true
 implied true b e f = e
 implied false b e f = absurd (cc)
 
+-- one side of a true `||` is true
 pub or-either : (a b : Bool) → (a || b) ≡ true → (a ≡ true) ⊎ (b ≡ true)
 or-either true b e = inl refl
 or-either false b e = inr e
 
+-- the table goes on behind a text with its next byte
 pub run-on : (t u : Text) (s b : ℕ) → run s (t ++ b ∷ u) ≡ run (step (run s t) b) u
 run-on [] u s b = refl
 run-on (x ∷ t) u s b = run-on t u (step s x) b
 
+-- where no spelling goes on, none is whole
 pub not-whole : is_whole 0 ≡ true → ⊥
 unfolding is_whole
 not-whole e = absurd (cc)
@@ -94,6 +99,7 @@ others-apart : list_all (λ a. list_all (λ b. may_join a b || are_apart a b) cl
 unfolding is_whole class_at same_class
 others-apart = refl
 
+-- no spelling of the first class goes on with one of the second, where the two may stand together
 pub apart-where : (a b : Class) (text rest : Text) → may_join a b ≡ false → Spells b text
     → EndsAt a (text ++ rest)
 apart-where a b text rest e f =
@@ -129,10 +135,12 @@ blank-ends : (b : ℕ) → is_blank b ≡ true → ends_by b ≡ true
 unfolding is_whole class_at same_class
 blank-ends b e = which-blank (λ x. ends_by x ≡ true) b e refl refl refl refl
 
+-- a blank ends every spelling
 pub at-blank : (class : Class) (b : ℕ) (rest : Text) → is_blank b ≡ true → EndsAt class (b ∷ rest)
 at-blank class b rest e =
     ends-at class b rest (every (λ a. ends a (column b)) (blank-ends b e) class)
 
+-- so does a tail of blanks
 pub at-tail : (class : Class) (tail : Text) → IsGap tail → EndsAt class tail
 at-tail class [] h = tt
 at-tail class (b ∷ tail) h = at-blank class b tail h.0
@@ -184,6 +192,7 @@ front-stays a (b ∷ x) y class n f (inl h) e =
 front-stays a (b ∷ x) y class n f (inr h) e =
     absurd (spelled-there a (b ∷ x) y 0 f h.2 (omega arith))
 
+-- where no longer spelling begins, the token at the front is the spelling
 pub stays-front : (a : Class) (x y : Text) (class : Class) (n : ℕ) → Spells a x
     → IsFront (x ++ y) class n → NoneLonger x y → n ≡ length x
 unfolding IsFront
@@ -245,6 +254,7 @@ no-end : (class : Class) (t : Text) → Spells class t → class ≢ c.End
 unfolding Spells
 no-end class t f e = subst (λ x. Fits (spelling x) t) e f
 
+-- pieces that are apart are the tokens of their text
 pub pieces-back : (ps : List Piece) (tail src : Text) (at : ℕ) → drop at src ≡ text_of_pieces ps tail
     → AreApart ps tail → AreTokensFrom src at (placed at ps tail)
 unfolding IsFront

@@ -23,11 +23,13 @@ joined never s = never
 joined empty s = s
 joined r s = both r s
 
+-- either of two, where one that stands for nothing is left out
 abbrev pub merged : Spelling → Spelling → Spelling
 merged never s = s
 merged r never = r
 merged r s = either r s
 
+-- the expression, or the one that stands for nothing
 abbrev pub kept : Bool → Spelling → Spelling
 kept true r = r
 kept false r = never
@@ -46,14 +48,17 @@ abbrev pub behind_all : Text → Spelling → Spelling
 behind_all [] r = r
 behind_all (b ∷ t) r = behind_all t (behind b r)
 
+-- the first side of a true `&&` is true
 pub and-left : (a b : Bool) → (a && b) ≡ true → a ≡ true
 and-left true b e = refl
 and-left false b e = e
 
+-- and so is the second
 pub and-right : (a b : Bool) → (a && b) ≡ true → b ≡ true
 and-right true b e = e
 and-right false b e = absurd (cc)
 
+-- `&&` of two that are true is true
 pub and-both : (a b : Bool) → a ≡ true → b ≡ true → (a && b) ≡ true
 and-both true b e f = f
 and-both false b e f = absurd (cc)
@@ -66,6 +71,7 @@ none-left : (a b : Text) → [] ≡ a ++ b → (a ≡ []) × (b ≡ [])
 none-left [] b e = (refl, sym e)
 none-left (x ∷ a) b e = absurd (cc)
 
+-- an expression that takes the empty text stands for it
 pub none-in : (r : Spelling) → takes_none r ≡ true → Fits r []
 none-in never e = absurd (cc)
 none-in empty e = refl
@@ -85,6 +91,7 @@ or-right : (a b : Bool) → b ≡ true → (a || b) ≡ true
 or-right true b e = refl
 or-right false b e = e
 
+-- and one that stands for the empty text takes it
 pub none-out : (r : Spelling) → Fits r [] → takes_none r ≡ true
 none-out never f = absurd f
 none-out empty f = refl
@@ -96,6 +103,7 @@ none-out (either r s) (inl f) = or-left _ _ (none-out r f)
 none-out (either r s) (inr f) = or-right _ _ (none-out s f)
 none-out (many r) f = refl
 
+-- what two expressions stand for, one after the other, they stand for joined
 pub joined-in : (r s : Spelling) (t : Text) → Fits (both r s) t → Fits (joined r s) t
 joined-in never s t (front, back, e, f, g) = absurd f
 joined-in empty s t (front, back, e, f, g) =
@@ -103,11 +111,13 @@ joined-in empty s t (front, back, e, f, g) =
     subst (Fits s) is g
 joined-in _ s t f = f
 
+-- and the other way round
 pub joined-out : (r s : Spelling) (t : Text) → Fits (joined r s) t → Fits (both r s) t
 joined-out never s t f = absurd f
 joined-out empty s t f = ([], t, refl, refl, f)
 joined-out _ s t f = f
 
+-- what either of two stands for, they stand for merged
 pub merged-in : (r s : Spelling) (t : Text) → Fits (either r s) t → Fits (merged r s) t
 merged-in never s t (inl f) = absurd f
 merged-in never s t (inr f) = f
@@ -115,6 +125,7 @@ merged-in _ never t (inl f) = f
 merged-in _ never t (inr f) = absurd f
 merged-in _ _ t f = f
 
+-- and the other way round
 pub merged-out : (r s : Spelling) (t : Text) → Fits (merged r s) t → Fits (either r s) t
 merged-out never s t f = inr f
 merged-out _ never t f = inl f
@@ -149,6 +160,7 @@ in-many : (r : Spelling) (b : ℕ) (t : Text) → ((u : Text) → Fits (behind b
 in-many r b t first (front, back, e, f, (pieces, is, each)) =
     ((b ∷ front) ∷ pieces, ap (λ x. b ∷ x) (e ∙ ap (λ x. front ++ x) is), (first front f, each))
 
+-- what an expression stands for behind a byte, it stands for with the byte before it
 pub behind-out : (r : Spelling) (b : ℕ) (t : Text) → Fits (behind b r) t → Fits r (b ∷ t)
 behind-out never b t f = absurd f
 behind-out empty b t f = absurd f
@@ -195,6 +207,7 @@ out-many r b t first ((c ∷ front) ∷ pieces) e (f, each) =
     let fits : Fits r (b ∷ front) = subst (λ x. Fits r (x ∷ front)) same f in
     (front, concat pieces, rest, first front fits, (pieces, refl, each))
 
+-- and the other way round
 pub behind-in : (r : Spelling) (b : ℕ) (t : Text) → Fits r (b ∷ t) → Fits (behind b r) t
 behind-in never b t f = absurd f
 behind-in empty b t f = absurd (cc)
@@ -209,15 +222,18 @@ behind-in (many r) b t (pieces, e, each) =
 
 -- ---- bytes that a regular expression doesn't tell apart
 
+-- whether two tests have one answer
 abbrev pub same_truth : Bool → Bool → Bool
 same_truth true b = b
 same_truth false b = not b
 
+-- tests with one answer are equal
 pub same-truth-is : (a b : Bool) → same_truth a b ≡ true → a ≡ b
 same-truth-is true b e = sym e
 same-truth-is false true e = absurd (cc)
 same-truth-is false false e = refl
 
+-- whether an expression takes two bytes alike
 abbrev pub is_alike : ℕ → ℕ → Spelling → Bool
 is_alike b c never = true
 is_alike b c empty = true
@@ -227,6 +243,7 @@ is_alike b c (both r s) = is_alike b c r && is_alike b c s
 is_alike b c (either r s) = is_alike b c r && is_alike b c s
 is_alike b c (many r) = is_alike b c r
 
+-- behind bytes that are taken alike, the same is left
 pub behind-alike : (b c : ℕ) (r : Spelling) → is_alike b c r ≡ true → behind b r ≡ behind c r
 behind-alike b c never e = refl
 behind-alike b c empty e = refl
@@ -260,6 +277,7 @@ kept-alike : (b c : ℕ) (x : Bool) (r : Spelling) → is_alike b c r ≡ true
 kept-alike b c true r e = e
 kept-alike b c false r e = refl
 
+-- and they are taken alike behind a byte
 pub alike-behind : (b c x : ℕ) (r : Spelling) → is_alike b c r ≡ true
     → is_alike b c (behind x r) ≡ true
 alike-behind b c x never e = refl
@@ -274,6 +292,7 @@ alike-behind b c x (either r s) e =
     (alike-behind b c x s (and-right _ _ e))
 alike-behind b c x (many r) e = joined-alike b c (behind x r) (many r) (alike-behind b c x r e) e
 
+-- and behind a text
 pub alike-behind-all : (b c : ℕ) (t : Text) (r : Spelling) → is_alike b c r ≡ true
     → is_alike b c (behind_all t r) ≡ true
 alike-behind-all b c [] r e = e

@@ -56,6 +56,7 @@ at-byte s b whole end at t false false r1 r2 d h f (none e g) = none e (none-her
 at-byte s b whole end at t false false r1 r2 d h f (some n w e i g) =
     go-on s b whole end at t 0 0 r2 n w e i g
 
+-- the scan finds the longest whole spelling
 pub finds : (t : Text) (s whole end at : ℕ) → Finds s whole end at t (scan s whole end at t)
 finds [] s whole end at = none refl (λ m h k. absurd (omega arith))
 finds (b ∷ t) s whole end at =
@@ -66,6 +67,7 @@ finds (b ∷ t) s whole end at =
 none-spells : (n : ℕ) (t : Text) → NoWhole START n t → NoneFrom (n + 1) t
 none-spells n t f m class h k g = absurd (cc (f m (omega arith) k, (accepted class (take m t) g).0))
 
+-- no class is spelled by the empty text
 pub none-empty : (class : Class) → Spells class [] → ⊥
 unfolding is_whole
 none-empty class g = absurd (cc (accepted class [] g).0)
@@ -91,6 +93,7 @@ front-of b t r (some n w e i f) =
     zero-plus : 0 + n ≡ n
     zero-plus = omega arith
 
+-- what the scan finds is the token at the front
 pub is-front : (t : Text) → IsFront t (front t).0 (front t).1
 unfolding front IsFront
 is-front [] = (refl, refl)
@@ -98,25 +101,30 @@ is-front (b ∷ t) = front-of b t (scan START 0 1 0 (b ∷ t)) (finds (b ∷ t) 
 
 -- ---- for the loop
 
+-- behind the last byte, the scan has what it found
 pub scan-end : (t : Text) (s whole end at : ℕ) → length t ≤ at
     → scan s whole end at (drop at t) ≡ (whole, end)
 scan-end t s whole end at h = rw (drop_of_length-le t {i = at} h) refl
 
+-- where no spelling goes on, it has what it found
 pub scan-dead : (t : Text) (s whole end at : ℕ) → at < length t → step s (get_or t at 0) ≡ 0
     → scan s whole end at (drop at t) ≡ (whole, end)
 scan-dead t s whole end at h e = rw (drop-cons t at 0, e) refl
 
+-- at the end of a text stands the end
 pub front-end : (t : Text) → length t ≡ 0 → (c.End, 0) ≡ front t
 unfolding front
 front-end [] e = refl
 front-end (b ∷ t) e = absurd (cc)
 
+-- the scan from the start of a text that has bytes gives its front
 pub front-found : (t : Text) (whole end : ℕ) → (length t ≡ 0 → ⊥)
     → (whole, end) ≡ scan START 0 1 0 t → (class_at whole, end) ≡ front t
 unfolding front
 front-found [] whole end h e = absurd (h refl)
 front-found (b ∷ t) whole end h e = ap (λ r. (class_at r.0, r.1)) e
 
+-- behind the last byte, the table stays where it is
 pub run-end : (t : Text) (s at : ℕ) → length t ≤ at → run s (drop at t) ≡ s
 run-end t s at h = rw (drop_of_length-le t {i = at} h) refl
 

@@ -16,7 +16,8 @@ use Rattle.ir_lexer.specs.declared.class.Class.{Class}
 use Rattle.ir_lexer.specs.declared.class.Class.TheVariants as c
 use Rattle.ir_lexer.specs.declared.table.TheConstants.{COLUMN, COLUMNS, STATES, START}
 use Rattle.ir_lexer.specs.Spelling.{Text, Spelling, never, empty, between, both, either, many, Fits, Spells, spelling}
-use Rattle.ir_lexer.specs.Scan.{column, next, step, is_whole, class_at, same_class}
+use Rattle.ir_lexer.specs.Scan.{column, next, step, is_whole, class_at}
+use Rattle.ir_lexer.specs.Classes.{same_class}
 use Rattle.ir_lexer.proofs.Derive.{takes_none, behind, behind_all, is_alike, same_truth, same-truth-is, and-left, and-right, and-both, behind-alike, alike-behind-all, none-in, none-out, behind-in, behind-out}
 
 -- ---- the tests that compute
@@ -41,6 +42,7 @@ samples =
     ∷ 60 ∷ 61 ∷ 62 ∷ 63 ∷ 64 ∷ 65 ∷ 69 ∷ 71 ∷ 91 ∷ 92 ∷ 93 ∷ 94 ∷ 95 ∷ 96 ∷ 97 ∷ 101 ∷ 103 ∷ 110
     ∷ 116 ∷ 120 ∷ 123 ∷ 125 ∷ []
 
+-- all classes
 abbrev pub classes : List Class
 classes =
     c.Word ∷ c.Integer ∷ c.Float ∷ c.Dims ∷ c.Str ∷ c.ValueName ∷ c.BlockName ∷ c.SymbolName
@@ -71,6 +73,7 @@ upto (suc n) p = upto n p && p n
 abbrev pub steps_at : ℕ → Class → ℕ → Bool
 steps_at s class k = same (behind (get_or samples k 0) (left s class)) (left (next s k) class)
 
+-- each column leads from a state to what is left behind its bytes, for each class
 abbrev pub row_steps : ℕ → Bool
 row_steps s = list_all (λ class. upto COLUMNS (steps_at s class)) classes
 
@@ -88,6 +91,7 @@ steps-within = refl
 abbrev pub sample_like : ℕ → Class → Bool
 sample_like b class = is_alike b (get_or samples (column b) 0) (spelling class)
 
+-- the sample of a byte's column is taken as the byte, for each class
 abbrev pub column_like : ℕ → Bool
 column_like b = list_all (sample_like b) classes
 
@@ -114,6 +118,7 @@ abbrev pub whole_at : ℕ → Class → Bool
 whole_at s class =
     same_truth (takes_none (left s class)) (is_whole s && same_class (class_at s) class)
 
+-- a state is whole for the class that the table has there, and for no other
 abbrev pub row_whole : ℕ → Bool
 row_whole s = list_all (whole_at s) classes
 
@@ -126,6 +131,7 @@ dead-stays = refl
 
 -- ---- what these tests say of any state, class and byte
 
+-- expressions that compare as equal are one
 pub same-is : (r s : Spelling) → same r s ≡ true → r ≡ s
 same-is never never e = refl
 same-is empty empty e = refl
@@ -144,6 +150,7 @@ same-is (either r s) (either x y) e =
 same-is (many r) (many x) e = ap (λ z. many z) (same-is r x e)
 same-is _ _ e = absurd (cc)
 
+-- what a test of all numbers below n says, each of them has
 pub below : (n : ℕ) (p : ℕ → Bool) → upto n p ≡ true → (k : ℕ) → k < n → p k ≡ true
 below zero p e k h = absurd (omega arith)
 below (suc n) p e k h = elim (last-or n k h) [
@@ -158,6 +165,7 @@ at-place : (f : Class → Bool) → list_all f classes ≡ true → (k : ℕ) �
     → f (get_or classes k c.Bad) ≡ true
 at-place f e k h = AllPass-from_list_all f classes e k c.Bad h
 
+-- what a test of all classes says, each of them has
 pub every : (f : Class → Bool) → list_all f classes ≡ true → (class : Class) → f class ≡ true
 every f e c.Word = at-place f e 0 (lit< tt)
 every f e c.Integer = at-place f e 1 (lit< tt)
@@ -203,6 +211,7 @@ alike-range b low high far h e =
     both-false true y e = e
     both-false false y e = e
 
+-- each byte has a column of the table
 pub column-within : (b : ℕ) → column b < COLUMNS
 column-within b = elim (near-or-far b) [
   | inl near ↦ ltb-true _ _ (below 256 (λ x. nat_lt (column x) COLUMNS) columns-within b near)
@@ -221,6 +230,7 @@ alike-far b far (either r s) e =
     and-both _ _ (alike-far b far r (and-left _ _ e)) (alike-far b far s (and-right _ _ e))
 alike-far b far (many r) e = alike-far b far r e
 
+-- the sample of its column is taken as each byte is
 pub like-sample : (b : ℕ) (class : Class) → sample_like b class ≡ true
 like-sample b class = elim (near-or-far b) [
   | inl near ↦ every (sample_like b) (below 256 column_like columns-right b near) class
@@ -230,6 +240,7 @@ like-sample b class = elim (near-or-far b) [
     avoided : (class : Class) → avoids (spelling class) ≡ true
     avoided class = every (λ x. avoids (spelling x)) all-avoid class
 
+-- a step of the table leads to what is left behind the byte
 pub step-right : (s b : ℕ) (class : Class) → s < STATES
     → behind b (left s class) ≡ left (next s (column b)) class
 step-right s b class h =
@@ -243,16 +254,19 @@ step-right s b class h =
 
 -- ---- runs of the table
 
+-- the state behind a text
 abbrev pub run : ℕ → Text → ℕ
 run s [] = s
 run s (b ∷ t) = run (step s b) t
 
+-- a step leads to a state of the table
 pub step-within : (s b : ℕ) → s < STATES → step s b < STATES
 unfolding step
 step-within s b h =
     let row : row_within s ≡ true = below STATES row_within steps-within s h in
     ltb-true _ _ (below COLUMNS (λ k. nat_lt (next s k) STATES) row (column b) (column-within b))
 
+-- and so does a text
 pub run-within : (t : Text) (s : ℕ) → s < STATES → run s t < STATES
 run-within [] s h = h
 run-within (b ∷ t) s h = run-within t (step s b) (step-within s b h)
@@ -280,10 +294,12 @@ whole-is : (s : ℕ) (class : Class) → s < STATES
 whole-is s class h =
     same-truth-is _ _ (every (whole_at s) (below STATES row_whole wholes-right s h) class)
 
+-- classes that compare as one are equal
 pub same-class-is : (a b : Class) → same_class a b ≡ true → a ≡ b
 unfolding same_class
 same-class-is a b e = same_true the_type tt a b e
 
+-- a class compares as one with itself
 pub same-class-refl : (a : Class) → same_class a a ≡ true
 unfolding same_class
 same-class-refl a = true_same the_type a a refl
@@ -308,11 +324,13 @@ spelled t e =
     ∙ and-both _ _ e (same-class-refl (class_at s)) in
     run-out t START (class_at s) (lit< tt) none
 
+-- no step leads away from where no spelling goes on
 pub step-dead : (b : ℕ) → step 0 b ≡ 0
 unfolding step
 step-dead b =
     eqb-true _ _ (below COLUMNS (λ k. nat_eq (next 0 k) 0) dead-stays (column b) (column-within b))
 
+-- and no text does
 pub run-dead : (t : Text) → run 0 t ≡ 0
 run-dead [] = refl
 run-dead (b ∷ t) = rw (step-dead b) (run-dead t)

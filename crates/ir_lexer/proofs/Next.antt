@@ -10,7 +10,8 @@ use Rattle.ir_lexer.specs.Spelling.{Text, Fits, Spells, spelling}
 use Rattle.ir_lexer.specs.declared.lexer.Token.{Token as Cut}
 use Rattle.ir_lexer.specs.Reading.{token_shown}
 use Rattle.ir_lexer.specs.Tokens.{Token, layout_len, IsFront, IsNext, AreTokensFrom}
-use Rattle.ir_lexer.specs.Scan.{front, cut, next_token, tokens_from, tokens_behind, same_class}
+use Rattle.ir_lexer.specs.Scan.{front, cut, next_token, tokens_from, tokens_behind}
+use Rattle.ir_lexer.specs.Classes.{same_class}
 use Rattle.ir_lexer.proofs.Machine.{same-class-is, same-class-refl}
 use Rattle.ir_lexer.proofs.Longest.{is-front}
 
@@ -27,6 +28,7 @@ cut-is src at start len class e f =
     ∙ ap (λ t. cut src start (front t)) (take_rest src start)
     ∙ ap (λ x. cut src x (front (drop x src))) e
 
+-- the token at the front lies in the text
 pub front-within : (t : Text) (class : Class) (n : ℕ) → IsFront t class n → n ≤ length t
 unfolding IsFront
 front-within [] class n f = omega arith
@@ -44,6 +46,7 @@ taken t =
     let h : (front t).1 ≤ length t = front-within t _ _ (is-front t) in
     omega (arith, length-take (front t).1 t)
 
+-- what the scan gives comes next
 pub is_next : (src : Text) (at : ℕ) → IsNext src at (next_token src at)
 unfolding next_token
 is_next src at =
@@ -54,6 +57,7 @@ is_next src at =
       front = subst (IsFront t (front t).0) (sym (taken t)) (is-front t);
     }
 
+-- a token that isn't the end has a byte, and lies in the text
 pub moves : (src : Text) (at : ℕ) (t : Token) → IsNext src at t → t.class ≢ c.End
     → (0 < length t.text) × (t.place + length t.text ≤ length src)
 moves src at t h other =
@@ -61,6 +65,7 @@ moves src at t h other =
     let within : length t.text ≤ length (drop t.place src) = front-within _ _ _ h.front in
     (more, omega (arith, length-drop t.place src))
 
+-- a class that compares as another one than the end is another
 pub not-end : (t : Token) → same_class t.class c.End ≡ false → t.class ≢ c.End
 not-end t e f = absurd (cc (ap (λ x. same_class x c.End) f, same-class-refl c.End))
 
@@ -72,6 +77,7 @@ nothing-left (b ∷ r) class n (inl f) e =
     absurd (subst (λ x. Fits (spelling x) (take n (b ∷ r))) e f.spelled)
 nothing-left (b ∷ r) class n (inr f) e = absurd (cc (f.0, e))
 
+-- the end stands at the end of the text
 pub next-end : (src : Text) (at : ℕ) (t : Cut) → token_shown src t ≡ next_token src at
     → (t.start ≤ t.end) × (t.end ≤ length src) → t.class ≡ c.End
     → t.start ≡ length src
@@ -122,6 +128,7 @@ same-tokens (suc n) (suc m) src at h k =
     ap (λ ts. t ∷ ts)
     (same-on src at n m t (is_next src at) last refl h k (λ to. same-tokens n m src to))
 
+-- a token and those behind it are all tokens from a place on
 pub all-behind : (src : Text) (at : ℕ)
     → AreTokensFrom src at (next_token src at ∷ tokens_behind src (next_token src at))
 all-behind src at = all-tokens (suc (suc (length src))) src at (omega arith)

@@ -42,6 +42,7 @@ one-front (k ∷ t) a b n m (inl x) (inr y) = absurd (y.2 n a (omega arith) x.wi
 one-front (k ∷ t) a b n m (inr x) (inl y) = absurd (x.2 m b (omega arith) y.within.1 y.spelled)
 one-front (k ∷ t) a b n m (inr x) (inr y) = (x.0 ∙ sym y.0, x.1 ∙ sym y.1)
 
+-- a token of this class, text and place
 abbrev token_of : Class → Text → ℕ → Token
 token_of class text place = record { class = class; text = text; place = place }
 
@@ -60,6 +61,7 @@ one-next src at t u x y =
     ∙ ap (λ p. take (length u.text) (drop p src)) place ∙ sym y.text in
     same-token t.class u.class t.text u.text t.place u.place front.0 text place
 
+-- a text has one list of tokens from a place on
 pub one-list : (src : Text) (at : ℕ) (ts us : List Token) → AreTokensFrom src at ts
     → AreTokensFrom src at us → ts ≡ us
 one-list src at [] us x y = absurd x

@@ -6,9 +6,11 @@ use Rattle.ir_lexer.specs.declared.class.Class.{Class}
 use Rattle.ir_lexer.specs.declared.class.Class.TheVariants as c
 use Rattle.ir_lexer.specs.Spelling.{Text, Spells}
 use Rattle.ir_lexer.specs.Tokens.{Token, layout_len, IsFront, IsNext, AreTokensFrom}
-use Rattle.ir_lexer.specs.Scan.{next_token, tokens_from, tokens_behind, same_class}
-use Rattle.ir_lexer.specs.Source.{IsToken, Advances}
+use Rattle.ir_lexer.specs.Scan.{next_token, tokens_from, tokens_behind}
+use Rattle.ir_lexer.specs.Classes.{same_class}
+use Rattle.ir_lexer.specs.Source.{IsToken, PlacesAscend, IsInOrder, Advances}
 use Rattle.ir_lexer.specs.Reading.{token_shown}
+use Rattle.ir_lexer.specs.declared.lexer.TheConstants.{TEXT_LIMIT}
 use Rattle.ir_lexer.specs.declared.lexer.Token.{Token as Cut}
 use Rattle.ir_lexer.specs.Slice.{source_at, Tells}
 use Rattle.ir_lexer.proofs.Machine.{same-class-is}
@@ -37,6 +39,7 @@ later-spelled : (src : Text) (at : ℕ) (t : Token) (ts : List Token) → AreTok
 later-spelled src at t [] f = All-nil IsToken
 later-spelled src at t (u ∷ ts) f = all-spelled src (t.place + length t.text) u ts f.2
 
+-- the text of the token that comes next spells its class
 pub next-spells : (src : Text) (at : ℕ) → IsToken (next_token src at)
 next-spells src at = spelled src at (next_token src at) (is_next src at)
 
@@ -44,6 +47,7 @@ next-spells src at = spelled src at (next_token src at) (is_next src at)
 pub behind-spell : (src : Text) (at : ℕ) → All IsToken (tokens_behind src (next_token src at))
 behind-spell src at = later-spelled src at (next_token src at) _ (all-behind src at)
 
+-- and is no longer than what is left
 pub next-short : (src : Text) (at : ℕ)
     → length (next_token src at).text ≤ length src - (next_token src at).place
 next-short src at =
@@ -52,7 +56,36 @@ next-short src at =
     let within : length t.text ≤ length (drop t.place src) = front-within _ _ _ n.front in
     omega (arith, length-drop t.place src)
 
-pub tells : (src : Text) → length src ≤ 16777216 → Tells (source_at src 0) src
+next-of : (src : Text) (at : ℕ) (t : Token) (ts : List Token) → AreTokensFrom src at (t ∷ ts)
+    → IsNext src at t
+next-of src at t [] f = f.0
+next-of src at t (u ∷ ts) f = f.0
+
+-- the places of tokens that come one after another ascend
+pub places-ascend : (src : Text) (at : ℕ) (t : Token) (ts : List Token)
+    → AreTokensFrom src at (t ∷ ts) → PlacesAscend (t ∷ ts)
+places-ascend src at t [] f = tt
+places-ascend src at t (u ∷ ts) f =
+    let m = moves src at t f.0 f.1 in
+    let n = next-of src (t.place + length t.text) u ts f.2 in
+    (omega (arith, m, n.place), places-ascend src (t.place + length t.text) u ts f.2)
+
+-- what always holds of a source holds of a text's tokens, from each place on
+pub in-order : (src : Text) (at : ℕ) → IsInOrder (source_at src at)
+in-order src at =
+    let t = next_token src at in
+    record {
+      spells = next-spells src at;
+      short = next-short src at;
+      later_spell = behind-spell src at;
+      ascend = λ ts e.
+          let same : tokens_behind src t ≡ ts = cc in
+          subst (λ (more : List Token). PlacesAscend (t ∷ more)) same
+          (places-ascend src at t _ (all-behind src at));
+    }
+
+-- a source at the start of a text tells the text's tokens
+pub tells : (src : Text) → length src ≤ TEXT_LIMIT → Tells (source_at src 0) src
 tells src h = record {
   tokens = (tokens_behind src (next_token src 0), refl, all-behind src 0);
   steady = refl;
@@ -73,6 +106,7 @@ behind-other : (src : Text) (t : Token) (b : Bool) → same_class t.class c.End 
 behind-other src t true e f = absurd (f (same-class-is _ _ e))
 behind-other src t false e f = refl
 
+-- a step at the end changes nothing
 pub at_end : (src : Text) (from : ℕ) → (next_token src from).class ≡ c.End
     → Advances (source_at src from) (Ok tt) (source_at src from)
 at_end src from e = record {
@@ -101,6 +135,7 @@ behind-from src t at other is =
     same-tokens n (suc n) src at (omega arith) (omega arith) in
     all ∙ ap (tokens_from n src) (sym is) ∙ more
 
+-- a step from another token goes to the one that comes next behind it
 pub goes-to : (src : Text) (from at : ℕ) → (next_token src from).class ≢ c.End
     → at ≡ (next_token src from).place + length (next_token src from).text
     → Advances (source_at src from) (Ok tt) (source_at src at)
@@ -123,6 +158,7 @@ goes-to src from at other is =
       stops = tt;
     }
 
+-- the end of a token of the code is that of its text
 pub end-is : (src : Text) (now : Cut) (t : Token) → token_shown src now ≡ t
     → (now.start ≤ now.end) × (now.end ≤ length src) → now.end ≡ t.place + length t.text
 end-is src now t e h =

@@ -11,7 +11,8 @@ use Rattle.ir_lexer.specs.declared.class.Class.{Class}
 use Rattle.ir_lexer.specs.declared.class.Class.TheVariants as c
 use Rattle.ir_lexer.specs.declared.table.TheConstants.{COLUMN, COLUMNS, STATES, START}
 use Rattle.ir_lexer.specs.Spelling.{Text, Spells}
-use Rattle.ir_lexer.specs.Scan.{step, next, column, is_whole, class_at, same_class}
+use Rattle.ir_lexer.specs.Scan.{step, next, column, is_whole, class_at}
+use Rattle.ir_lexer.specs.Classes.{same_class}
 use Rattle.ir_lexer.specs.Written.{NoneLonger, is_exponent, begins_sign}
 use Rattle.ir_lexer.proofs.Apart.{run-on, not-whole, or-either, implied}
 use Rattle.ir_lexer.proofs.Derive.{and-left, and-right}
@@ -32,9 +33,11 @@ exponent = 12
 abbrev word : ℕ
 word = 18
 
+-- the columns of `e` and `E`
 abbrev is_exponent_column : ℕ → Bool
 is_exponent_column k = nat_eq k 34 || nat_eq k 25
 
+-- the columns of `+` and `-`
 abbrev is_sign_column : ℕ → Bool
 is_sign_column k = nat_eq k 12 || nat_eq k 14
 
@@ -50,6 +53,7 @@ steps_on s k =
     || (nat_eq (next s k) exponent && (nat_eq (next START k) word
     && (same_class (class_at s) c.Float && is_exponent_column k)))))
 
+-- what the table does behind a whole spelling that is no dimensions
 abbrev row_steps_on : ℕ → Bool
 row_steps_on s =
     not (is_whole s && not (same_class (class_at s) c.Dims)) || upto COLUMNS (steps_on s)
@@ -81,12 +85,14 @@ ends-soon-right = refl
 
 -- ---- which bytes these columns have
 
+-- the bytes of the exponent's columns are `e` and `E`
 abbrev exponent_bytes : ℕ → Bool
 exponent_bytes b = not (is_exponent_column (column b)) || ((b == 101) || (b == 69))
 
 exponent-bytes-right : upto 256 exponent_bytes ≡ true
 exponent-bytes-right = refl
 
+-- the bytes of the signs' columns are `+` and `-`
 abbrev sign_bytes : ℕ → Bool
 sign_bytes b = not (is_sign_column (column b)) || ((b == 43) || (b == 45))
 
@@ -207,6 +213,7 @@ second-exponent b not_yet =
 
 -- ---- runs
 
+-- the table goes through two texts one after the other
 pub run-join : (t u : Text) (s : ℕ) → run s (t ++ u) ≡ run (run s t) u
 run-join [] u s = refl
 run-join (b ∷ t) u s = run-join t u (step s b)

@@ -1,4 +1,5 @@
 pub mod Signs
+pub mod Classes
 pub mod Spelling
 pub mod Tokens
 pub mod Names

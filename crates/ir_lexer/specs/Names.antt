@@ -11,6 +11,7 @@ use Rattle.std.specs.Prelude.{ℕ, ◌+◌, ◌-◌, ◌*◌, Bool, ◌&&◌, �
 use Rattle.ir_lexer.specs.Signs.{tab, line_feed, quote, backslash, letter_n, letter_t}
 use Rattle.ir_lexer.specs.Spelling.{Text}
 
+-- a byte is one of a range, its ends included
 abbrev pub is_between : ℕ → ℕ → ℕ → Bool
 is_between low high b = nat_le low b && nat_le b high
 

@@ -7,6 +7,7 @@ use Rattle.std.specs.Prelude.{ℕ, ◌+◌, List, take, count_by, nat_eq, not}
 use Rattle.std.specs.List.{suffix_len}
 use Rattle.ir_lexer.specs.Signs.{line_feed}
 
+-- one more than the line feeds before the place
 abbrev pub line_at : List ℕ → ℕ → ℕ
 line_at src at = 1 + count_by (λ b. nat_eq b line_feed) (take at src)
 

@@ -10,14 +10,14 @@
 --   next_token src at        the token that comes next from a place on
 --   tokens_behind src t      the tokens behind a token
 use Rattle.std.specs.Prelude.{ℕ, zero, suc, ◌+◌, Bool, false, List, [], ◌∷◌, length, take, drop, get_or, if◌then◌else◌, ◌==◌, nat_le}
-use denote.Enum.Bare.{sameb}
-use Rattle.ir_lexer.specs.contracts.class.Class.{the_type}
+use Rattle.ir_lexer.specs.Classes.{same_class}
 use Rattle.ir_lexer.specs.declared.class.Class.{Class}
 use Rattle.ir_lexer.specs.declared.class.Class.TheVariants as c
 use Rattle.ir_lexer.specs.declared.table.TheConstants.{COLUMN, STEP, WHOLE, START, FIRST_WHOLE}
 use Rattle.ir_lexer.specs.Spelling.{Text}
 use Rattle.ir_lexer.specs.Tokens.{Token, layout_len}
 
+-- the column of a byte: bytes that all spellings take alike share one
 abbrev pub column : ℕ → ℕ
 column b = get_or COLUMN b 0
 
@@ -25,18 +25,17 @@ column b = get_or COLUMN b 0
 abbrev pub next : ℕ → ℕ → ℕ
 next s k = get_or (get_or STEP s []) k 0
 
+-- the state behind a state and a byte
 unfoldable pub step : ℕ → ℕ → ℕ
 step s b = next s (column b)
 
+-- what was read up to this state is a whole spelling
 unfoldable pub is_whole : ℕ → Bool
 is_whole s = nat_le FIRST_WHOLE s
 
 -- `Bad` where the state isn't whole
 unfoldable pub class_at : ℕ → Class
 class_at s = get_or WHOLE s c.Word
-
-unfoldable pub same_class : Class → Class → Bool
-same_class = sameb the_type
 
 -- The state and the end of the longest whole spelling, from a state at a place on. The longest so
 -- far ended in the state whole, at end. State 0 is where no spelling goes on.
@@ -56,6 +55,7 @@ front (b ∷ t) = let r = scan START 0 1 0 (b ∷ t) in (class_at r.0, r.1)
 abbrev pub cut : Text → ℕ → Class × ℕ → Token
 cut src start f = record { class = f.0; text = take f.1 (drop start src); place = start }
 
+-- behind the layout at the place, the front of the rest as a token
 unfoldable pub next_token : Text → ℕ → Token
 next_token src at =
     let start = at + layout_len false (drop at src) in cut src start (front (drop start src))

@@ -26,6 +26,7 @@ source_at src from =
       stopped = false;
     }
 
+-- over the text of a reading, at its place
 unfoldable pub slice_source : Reading → Source
 slice_source r = source_at r.text r.place
 

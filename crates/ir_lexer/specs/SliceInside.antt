@@ -5,6 +5,7 @@ use Rattle.ir_lexer.specs.declared.slice.SliceTokens.TheInside.{Inside}
 use Rattle.ir_lexer.specs.Reading.{Reading, token_shown}
 use Rattle.ir_lexer.specs.Scan.{next_token}
 
+-- the text of the fields, and the place from which the present token was looked for
 abbrev pub reading_of : Inside → Reading
 reading_of s = record { text = s.src.now; place = s.from }
 

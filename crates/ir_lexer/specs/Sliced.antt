@@ -6,7 +6,8 @@ use Rattle.ir_lexer.specs.declared.class.Class.TheVariants as c
 use Rattle.ir_lexer.specs.Spelling.{Text}
 use Rattle.ir_lexer.specs.Tokens.{Token}
 use Rattle.ir_lexer.specs.Reading.{Reading}
-use Rattle.ir_lexer.specs.Scan.{next_token, tokens_from, same_class}
+use Rattle.ir_lexer.specs.Scan.{next_token, tokens_from}
+use Rattle.ir_lexer.specs.Classes.{same_class}
 use Rattle.ir_lexer.specs.Slice.{slice_source}
 
 ends_by : (src : Text) (t : Token) (b : Bool) → same_class t.class c.End ≡ b
@@ -17,6 +18,7 @@ unfolding same_class
 ends_by src t true e f = same_true the_type tt t.class c.End e
 ends_by src t false e f = absurd (cc)
 
+-- where no token is told behind the present one, that is the end
 pub slice_ends : (r : Reading) → (slice_source r).later ≡ Some []
     → (slice_source r).now.class ≡ c.End
 unfolding slice_source
@@ -31,6 +33,7 @@ unfolding same_class
 end_by src t true ts e f is = cc f
 end_by src t false ts e f is = absurd (cc (e, true_same the_type t.class c.End is))
 
+-- behind the end no token is told
 pub slice_end_is_last : (r : Reading) (ts : List Token) → (slice_source r).later ≡ Some ts
     → (slice_source r).now.class ≡ c.End → ts ≡ []
 unfolding slice_source

@@ -7,8 +7,10 @@
 --   Source            what a source means at one moment
 --   Origin            the file that a source reads, and where told, all files
 --   IsToken t         the text of t spells its class
+--   PlacesAscend ts   each token of ts stands at a greater place than the one before it
+--   IsInOrder s       what always holds of a source
 --   Advances s r s'   a step to the next token leads from s to s' and answers r
-use Rattle.std.specs.Prelude.{◌≡◌, ◌≢◌, ◌⊎◌, ℕ, ◌≤◌, ◌<◌, Bool, true, List, [], ◌∷◌, length, Option, Some, Result, Ok, Err, OnOk, OnErr}
+use Rattle.std.specs.Prelude.{◌≡◌, ◌≢◌, ◌⊎◌, ℕ, ◌≤◌, ◌<◌, Bool, true, List, [], ◌∷◌, length, All, Option, Some, IfSome, Result, Ok, Err, OnOk, OnErr}
 use Rattle.irdl_bytes.specs.Outside.{FileMap, Rose}
 use Rattle.ir_lexer.specs.declared.class.Class.TheVariants.{End, Bad}
 use Rattle.ir_lexer.specs.declared.source.TokenStop.{TokenStop}
@@ -21,6 +23,7 @@ pub record Origin : Type 0 where
   pub name : Text
   pub files : Option FileMap
 
+-- what a source of tokens means at one moment
 pub record Source : Type 0 where
   -- the present token
   pub now : Token
@@ -42,6 +45,20 @@ abbrev pub IsToken : Token → Type 0
 IsToken t =
     Spells t.class t.text
     ⊎ (((t.class ≡ Bad) × (length t.text ≡ 1)) ⊎ ((t.class ≡ End) × (t.text ≡ [])))
+
+-- each token stands at a greater place than the one before it
+abbrev pub PlacesAscend : List Token → Type 0
+PlacesAscend [] = Unit {0}
+PlacesAscend (t ∷ []) = Unit {0}
+PlacesAscend (t ∷ u ∷ ts) = (t.place < u.place) × PlacesAscend (u ∷ ts)
+
+-- What always holds of a source, told or not: the present token's text spells its class and is no
+-- longer than the bound. The texts of the tokens that are told spell theirs, and all places ascend.
+pub record IsInOrder (s : Source) : Type 0 where
+  pub spells : IsToken s.now
+  pub short : length s.now.text ≤ s.left
+  pub later_spell : IfSome s.later (All IsToken)
+  pub ascend : (ts : List Token) → s.later ≡ Some ts → PlacesAscend (s.now ∷ ts)
 
 -- `Failed` comes only where the count rose, and never from a steady source. Want of memory is free.
 abbrev pub StepHasCause : Source → Result (Unit {0}) TokenStop → Source → Type 0

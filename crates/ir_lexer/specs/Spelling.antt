@@ -15,6 +15,7 @@ use Rattle.std.specs.List.{concat}
 use Rattle.ir_lexer.specs.declared.class.Class.{Class}
 use Rattle.ir_lexer.specs.declared.class.Class.TheVariants as c
 
+-- a list of bytes, as numbers
 abbrev pub Text : Type 0
 Text = List ℕ
 
@@ -50,10 +51,12 @@ Fits (many r) t = (pieces : List Text) × (t ≡ concat pieces) × EachText (Fit
 -- ---- words for regular expressions
 
 infixr 6 ◌&◌
+-- the one and then the other
 infixr 5 ◌or◌
 abbrev pub ◌&◌ : Spelling → Spelling → Spelling
 r & s = both r s
 
+-- one of the two
 abbrev pub ◌or◌ : Spelling → Spelling → Spelling
 r or s = either r s
 
@@ -84,9 +87,11 @@ range _ = never
 
 -- ---- the parts of tokens
 
+-- a decimal digit
 abbrev pub digit : Spelling
 digit = range (codes "09")
 
+-- a letter of either case
 abbrev pub letter : Spelling
 letter = range (codes "AZ") or range (codes "az")
 
@@ -145,6 +150,7 @@ string = exactly (codes "\"") & many (plain_byte or escape) & exactly (codes "\"
 
 -- ---- the classes
 
+-- the spelling of each class
 abbrev pub spelling : Class → Spelling
 spelling c.Word = bare_id
 spelling c.Integer = integer

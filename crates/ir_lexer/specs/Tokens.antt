@@ -15,6 +15,7 @@ use Rattle.ir_lexer.specs.declared.class.Class.TheVariants as c
 use Rattle.ir_lexer.specs.Signs.{tab, line_feed, carriage_return, space, slash}
 use Rattle.ir_lexer.specs.Spelling.{Text, Spells}
 
+-- a space, a line feed, a tab or a carriage return
 abbrev pub is_blank : ℕ → Bool
 is_blank b = (b == space) || (b == line_feed) || (b == tab) || (b == carriage_return)
 
@@ -64,5 +65,6 @@ AreTokensFrom src at (t ∷ []) = IsNext src at t × (t.class ≡ c.End)
 AreTokensFrom src at (t ∷ u ∷ ts) =
     IsNext src at t × (t.class ≢ c.End) × AreTokensFrom src (t.place + length t.text) (u ∷ ts)
 
+-- all tokens of a text, from its first byte on
 abbrev pub AreTokens : Text → List Token → Type 0
 AreTokens src ts = AreTokensFrom src 0 ts

@@ -7,10 +7,11 @@ ghost use Rattle.ir_lexer.specs.Reading.{Reading, token_shown};
 
 use crate::class::Class;
 use crate::scan::{layout_end, longest};
+use irdl_bytes::FILE_LIMIT;
 use std::marker::Model;
 
-/// The most bytes that a text may have.
-pub const TEXT_LIMIT: usize = 16_777_216;
+/// The most bytes that a text may have: as many as a file that is read.
+pub const TEXT_LIMIT: usize = FILE_LIMIT;
 
 /// A class, and where the spelling stands in the text, in bytes from 0.
 #[derive(Clone, Copy, Debug, PartialEq, Eq)]

@@ -1,8 +1,8 @@
 //! Where tokens come from.
 
-ghost use Rattle.std.specs.Prelude.{◌≡◌, ◌≤◌, length, List, Some, [], All, IfSome};
+ghost use Rattle.std.specs.Prelude.{◌≡◌, List, Some, []};
 ghost use Rattle.ir_lexer.specs.declared.class.Class.TheVariants.{End};
-ghost use Rattle.ir_lexer.specs.Source.{Source, Advances, IsToken};
+ghost use Rattle.ir_lexer.specs.Source.{Source, Advances, IsInOrder};
 ghost use Rattle.ir_lexer.specs.Tokens.{Token};
 
 use crate::class::Class;
@@ -21,17 +21,15 @@ pub enum TokenStop {
 pub trait TokenSource {
     ghost state: { Self → Source };
 
-    /// The class of the present token.
+    /// The class of the present token. Its text spells it, told or not, and so do the texts of
+    /// the tokens that are told behind it theirs; their places ascend.
     fn class(&self) -> Class
-        ensures { result ≡ (state self.now).now.class };
+        ensures class { result ≡ (state self.now).now.class }
+        ensures order { IsInOrder (state self.now) };
 
-    /// The bytes of the present token. They spell its class, told or not, and so do those of each
-    /// token that is told behind it.
+    /// The bytes of the present token.
     fn text(&self) -> &[u8]
-        ensures value { result.now ≡ (state self.now).now.text }
-        ensures spells { IsToken (state self.now).now }
-        ensures later_spell { IfSome (state self.now).later (All IsToken) }
-        ensures short { length (state self.now).now.text ≤ (state self.now).left };
+        ensures { result.now ≡ (state self.now).now.text };
 
     /// Where the present token begins, in bytes from 0.
     fn place(&self) -> u32

@@ -6,7 +6,8 @@ use Rattle.ir_lexer.specs.declared.class.Class.TheVariants.{End}
 use Rattle.ir_lexer.specs.Tokens.{Token}
 use Rattle.grammar.specs.declared.stop.SyntaxCode.{SyntaxCode}
 use Rattle.grammar.specs.Answers.{IsRefusal}
-use Rattle.grammar.specs.Front.{Viable, Shallow, Some_of, Front}
+use Rattle.grammar.specs.Exact.{HasMore}
+use Rattle.grammar.specs.Front.{Shallow, Some_of, Front}
 use Rattle.grammar.specs.Grammar.{Tokens}
 use Rattle.grammar.specs.Looks.{any_of}
 use Rattle.grammar.specs.Rules.{whole}
@@ -24,8 +25,8 @@ unfolding DefText
 file-ends ts d (front, back, b, c, is, f, (t, is_last, passed, e2), e) =
     (front, t, is ∙ ap (λ w. front ++ w) is_last, passes-class (any_of End) t passed)
 
--- what is too deep is viable
-def-seen : (p : Tokens) → TooDeepDef p → Viable (Some_of DefText) p
+-- what is too deep has more
+def-seen : (p : Tokens) → TooDeepDef p → HasMore (Some_of DefText) p
 unfolding DefText TooDeepDef
 def-seen p x = flat-seen (whole file) file-checked p x
 

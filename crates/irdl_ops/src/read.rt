@@ -1,6 +1,6 @@
 //! The reader of definition files. Each function reads the rule of its name.
 
-ghost use Rattle.grammar.specs.Answers.{Told, Answered, Accepts};
+ghost use Rattle.grammar.specs.Answers.{Told, Answered, Accepts, IsReadFrom};
 ghost use Rattle.grammar.specs.Flat.{flat};
 ghost use Rattle.grammar.specs.Ran.{Kept, Reads, ReadsWhole};
 ghost use Rattle.grammar.specs.Looks.{any_of, passes};
@@ -22,11 +22,13 @@ use std::alloc::{AllocError, Global};
 /// Reads a definition file to its end. Where it is accepted, the source stands at the end.
 ///
 /// A file is accepted exactly where the grammar of definition files derives its tokens. Any other
-/// is refused at the first token that no such file has there.
+/// is refused at the first token that no such file has there. Over every source, told or not, a
+/// tree that is read is that of tokens which the source may have.
 pub fn read_definitions<T: TokenSource>(alloc: Global, t: &mut T) -> Result<RawDefs, SyntaxStop>
     ensures kept { Kept (T.state t.old) result (T.state t.new) }
     ensures answer { Told (T.state t.old) (λ ts. Answered DefText TooDeepDef ts result) }
     ensures accepts { Told (T.state t.old) (λ ts. Accepts DefText TooDeepDef ts result) }
+    ensures derived { IfOk result (IsReadFrom DefText TooDeepDef (T.state t.old)) }
     ensures at_end { OnOk result ((T.state t.new).now.class ≡ Class.End) }
 {
     whole_file(alloc, t)

@@ -1,4 +1,4 @@
-use Rattle.ir_lexer.specs.Scan.{same_class}
+use Rattle.ir_lexer.specs.Classes.{same_class}
 use Rattle.grammar.proofs.step.same_class.Goals as goal
 
 pub returns-clause-value : goal.returns-clause-value

@@ -24,20 +24,20 @@ each-init g c = rw (c.in_ok-push.ensures.ok, c.new-found.ensures)
     ∙ (sym c.begins_entry.ensures ∙ c.if-not-begins_entry.false)) c.in_ok-entry.ensures)
 
 pub each-preserved : goal.each-preserved
-each-preserved g c = let comma = sym c.is_class.ensures ∙ c.each-test.true in
+each-preserved g c = let comma = sym c.is_class.ensures.passes ∙ c.each-test.true in
     rw c.in_ok-push-2.ensures.ok
     (lists-on flat-fits comma c.each.invariant c.in_ok-next_entry.ensures)
 
 pub returns-in_err-next_entry : goal.returns-in_err-next_entry
-returns-in_err-next_entry g c = let comma = sym c.is_class.ensures ∙ c.each-test.true in
+returns-in_err-next_entry g c = let comma = sym c.is_class.ensures.passes ∙ c.each-test.true in
     exit c.from_residual-in_err-next_entry.ensures
     (lists-err comma c.each.invariant c.in_err-next_entry.ensures)
 
 pub returns-in_err-push-2 : goal.returns-in_err-push-2
-returns-in_err-push-2 g c = let comma = sym c.is_class.ensures ∙ c.each-test.true in
+returns-in_err-push-2 g c = let comma = sym c.is_class.ensures.passes ∙ c.each-test.true in
     exit c.from_residual-in_err-push-2.ensures
     (lists-memory flat-fits comma c.each.invariant c.in_ok-next_entry.ensures)
 
 pub returns : goal.returns
-returns g c = let none = sym c.is_class.ensures ∙ c.each-test.false in
+returns g c = let none = sym c.is_class.ensures.passes ∙ c.each-test.false in
     rw c.trim.ensures (lists-end none c.each.invariant)
