@@ -77,7 +77,7 @@ impl Head {
         match self {
             Head::Shaped { .. } | Head::Complex => n == 1,
             Head::Function { inputs } => *inputs <= n,
-            Head::Dict { keys } => keys.as_slice().len() == n,
+            Head::Dict { keys } => keys.len() == n,
             Head::Tuple | Head::Array | Head::Dialect { .. } => true,
             Head::Int(_)
             | Head::NoneType

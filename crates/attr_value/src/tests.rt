@@ -90,6 +90,8 @@ fn items_stay_in_the_order_of_their_pushes(rt: HostRuntime) -> Result<(), Fail> 
     }
     let want = [IntKind::Signless(32), IntKind::Index, IntKind::Unsigned(32)];
     assert_eq!(rt; kinds.as_slice(), want.as_slice());
+    assert_eq!(rt; (kinds.get(2), kinds.get(3)), (want.get(2), None));
+    assert!(rt; kinds.len() == 3 && !kinds.is_empty() && kinds.iter().eq(want.iter()));
     assert!(rt; IntKind::Signed(32) != IntKind::Signless(32));
     assert!(rt; ShapeKind::Vector != ShapeKind::Tensor && ShapeKind::Tensor != ShapeKind::Memref);
     Ok(())
