@@ -14,6 +14,7 @@ use Rattle.attr_value.specs.declared.kind.Dim.TheVariants.{Known, Unknown}
 use Rattle.attr_value.specs.declared.kind.IntKind.{IntKind}
 use Rattle.attr_value.specs.declared.kind.IntKind.TheVariants.{Index, Signless, Signed, Unsigned}
 use Rattle.attr_value.specs.declared.kind.ShapeKind.{ShapeKind}
+use Rattle.attr_value.specs.declared.kind.TheConstants.{WIDTH_LIMIT}
 use Rattle.attr_value.specs.declared.kind.ShapeKind.TheVariants as shape
 use Rattle.attr_value.specs.Numbers.{IsKept}
 use Rattle.attr_value.specs.Values.{Value}
@@ -55,10 +56,11 @@ is_made_of_types (h.Shaped kind dims) = true
 is_made_of_types h.Complex = true
 is_made_of_types _ = false
 
--- integer types are 1 to 16777215 bits wide
+-- an integer type has 1 bit to so many as the limit says
 abbrev pub IsTypeWidth : ℕ → Type 0
-IsTypeWidth width = (1 ≤ width) × (width ≤ 16777215)
+IsTypeWidth width = (1 ≤ width) × (width ≤ WIDTH_LIMIT)
 
+-- an integer type may be of this kind
 abbrev pub IsIntType : IntKind → Type 0
 IsIntType Index = Unit {0}
 IsIntType (Signless width) = IsTypeWidth width

@@ -8,14 +8,15 @@ use Rattle.std.specs.Prelude.{ℕ, ◌-◌, ◌^◌, ◌≤◌, ℤ, pos, neg_�
 use Rattle.std.specs.Prelude.{if◌then◌else◌}
 use Rattle.attr_value.specs.declared.kind.IntKind.{IntKind}
 use Rattle.attr_value.specs.declared.kind.IntKind.TheVariants.{Index, Signless, Signed, Unsigned}
+use Rattle.attr_value.specs.declared.number.TheConstants.{NUMBER_WIDTH_LIMIT}
 
 -- 2 to the power of n
 abbrev pub power : ℕ → ℤ
 power n = pos (2 ^ n)
 
--- numbers are 1 to 64 bits wide
+-- a number has 1 bit to so many as the limit says
 abbrev pub IsNumberWidth : ℕ → Type 0
-IsNumberWidth width = (1 ≤ width) × (width ≤ 64)
+IsNumberWidth width = (1 ≤ width) × (width ≤ NUMBER_WIDTH_LIMIT)
 
 -- numbers may have an integer type of the kind
 abbrev pub HasNumbers : IntKind → Type 0

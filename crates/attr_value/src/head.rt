@@ -6,6 +6,9 @@ ghost use Rattle.attr_value.specs.Heads.{is_type_head, MayHaveKids};
 use crate::kind::{Dim, FloatKind, IntKind, ShapeKind};
 use crate::{List, Text};
 
+/// How deep a value may nest. A value without kids has the depth 1.
+pub const DEPTH_LIMIT: usize = 64;
+
 /// The number of a value in the table that keeps it. Ids count from 0.
 #[derive(Clone, Copy, Debug, Default, PartialEq, Eq, Hash, Drop)]
 pub struct ValueId(pub usize);

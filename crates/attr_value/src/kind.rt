@@ -1,5 +1,8 @@
 //! The kinds of types that have a word, a width or a shape.
 
+/// The greatest width of an integer type, in bits.
+pub const WIDTH_LIMIT: u32 = 16_777_215;
+
 /// A kind of integer type. Those with a width have it in bits.
 #[derive(Clone, Copy, Debug, PartialEq, Eq, Hash, Drop)]
 pub enum IntKind {

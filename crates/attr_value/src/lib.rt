@@ -14,10 +14,10 @@ mod number;
 mod text;
 
 pub use base::{BaseKind, base_named, is_base};
-pub use head::{Head, ValueId};
-pub use kind::{Dim, FloatKind, IntKind, ShapeKind};
+pub use head::{DEPTH_LIMIT, Head, ValueId};
+pub use kind::{Dim, FloatKind, IntKind, ShapeKind, WIDTH_LIMIT};
 pub use list::List;
-pub use number::residue;
+pub use number::{NUMBER_WIDTH_LIMIT, residue};
 pub use text::Text;
 
 #[cfg(test)]

@@ -5,6 +5,9 @@ ghost use Rattle.attr_value.specs.Numbers.{IsNumberWidth, HasNumbers, IsInRange,
 
 use crate::kind::IntKind;
 
+/// The greatest width, in bits, of an integer type that numbers may have.
+pub const NUMBER_WIDTH_LIMIT: u32 = 64;
+
 /// The numbers from `lowest` on that are less than `limit`.
 #[derive(Drop)]
 struct Range {
@@ -19,7 +22,7 @@ fn half_of(width: u32) -> Option<i128>
     ensures doubled { IfSome result (λ half. (pos 2 *ℤ half) ≡ power width) }
     ensures none { IfNone result (¬ IsNumberWidth width) }
 {
-    if width == 0 || width > 64 {
+    if width == 0 || width > NUMBER_WIDTH_LIMIT {
         return None;
     }
     Some(i128::from(1u64 << (width - 1)))
@@ -63,8 +66,8 @@ fn range_of(kind: IntKind) -> Option<Range>
 /// The number that is kept of one that is written at a kind of integer type: a signless number of
 /// the upper half stands for a negative one, and any other for itself.
 ///
-/// `None` exactly where the kind's width isn't from 1 to 64, or the number is out of its range. It
-/// takes no memory.
+/// `None` exactly where the kind's width isn't from 1 to [`NUMBER_WIDTH_LIMIT`], or the number is
+/// out of its range. It takes no memory.
 pub fn residue(kind: IntKind, n: i128) -> Option<i128>
     ensures some { IfSome result (λ r. HasNumbers kind × IsInRange kind n × (r ≡ kept kind n)) }
     ensures none { IfNone result (HasNumbers kind → IsInRange kind n → ⊥) }
