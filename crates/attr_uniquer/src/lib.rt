@@ -5,6 +5,7 @@
 #![tactic(auto)]
 
 mod row;
+mod rule;
 mod uniquer;
 
 pub use uniquer::Uniquer;

@@ -61,6 +61,19 @@ fn ids_tell_kids_apart(rt: HostRuntime) -> Result<(), Fail> {
     Ok(())
 }
 
+#[test]
+fn a_value_keeps_to_the_rule_of_its_head(rt: HostRuntime) -> Result<(), Fail> {
+    let mut u = Uniquer::new(rt.alloc());
+    let word = u.intern(Head::Int(IntKind::Index), &[])?;
+    let unit = u.intern(Head::Unit, &[])?;
+    assert!(rt; u.keeps_own_rule(&Head::Tuple, &[word, word]));
+    assert!(rt; !u.keeps_own_rule(&Head::Tuple, &[word, unit]));
+    assert!(rt; u.keeps_own_rule(&Head::Array, &[word, unit]));
+    assert!(rt; !u.keeps_own_rule(&Head::Complex, &[word, word]));
+    assert!(rt; !u.keeps_own_rule(&Head::Int(IntKind::Signless(0)), &[]));
+    Ok(())
+}
+
 // The tuple of the last value twice.
 fn twice_the_last(u: &mut Uniquer) -> Result<ValueId, AllocError>
     requires { 0 < length u.old }

@@ -1,4 +1,6 @@
+pub mod Kids
 pub mod Named
+pub mod Order
 pub mod Powers
 pub mod Same
 pub mod SameHead

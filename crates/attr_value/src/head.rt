@@ -1,6 +1,7 @@
 //! The heads of values.
 
 ghost use Rattle.std.specs.Prelude.{◌≡◌, ◌↔◌, IsTrue};
+ghost use Rattle.attr_value.specs.Heads as spec;
 ghost use Rattle.attr_value.specs.Heads.{is_type_head, MayHaveKids};
 
 use crate::kind::{Dim, FloatKind, IntKind, ShapeKind};
@@ -70,6 +71,16 @@ impl Head {
             | Head::Dict { .. }
             | Head::Symbol { .. }
             | Head::Dense { .. } => false,
+        }
+    }
+
+    /// Whether the kids of a value with this head are types. It takes no memory.
+    pub fn is_made_of_types(&self) -> bool
+        ensures { result ≡ spec.is_made_of_types self.now }
+    {
+        match self {
+            Head::Function { .. } | Head::Tuple | Head::Shaped { .. } | Head::Complex => true,
+            _ => false,
         }
     }
 

@@ -11,6 +11,7 @@ mod head;
 mod kind;
 mod list;
 mod number;
+mod rule;
 mod text;
 
 pub use base::{BaseKind, base_named, is_base};

@@ -1,7 +1,9 @@
 //! The numbers of integer types.
 
-ghost use Rattle.std.specs.Prelude.{◌≡◌, ◌-◌, ◌*ℤ◌, pos, IfSome, IfNone};
-ghost use Rattle.attr_value.specs.Numbers.{IsNumberWidth, HasNumbers, IsInRange, lowest, limit, power, kept};
+ghost use Rattle.std.specs.Prelude.{◌≡◌, ◌↔◌, ◌-◌, ◌*ℤ◌, pos, IsTrue, IfSome, IfNone};
+ghost use Rattle.attr_value.specs.Numbers as spec;
+ghost use Rattle.attr_value.specs.Numbers.{IsNumberWidth, HasNumbers, IsInRange, IsKept};
+ghost use Rattle.attr_value.specs.Numbers.{lowest, limit, power, kept};
 
 use crate::kind::IntKind;
 
@@ -80,4 +82,21 @@ pub fn residue(kind: IntKind, n: i128) -> Option<i128>
         IntKind::Signless(_) if n >= -range.lowest => Some(n - range.limit),
         _ => Some(n),
     }
+}
+
+/// The kind in whose range the numbers lie that are kept at a kind.
+fn kept_kind(kind: IntKind) -> IntKind
+    ensures { result ≡ spec.kept_kind kind }
+{
+    match kind {
+        IntKind::Signless(width) => IntKind::Signed(width),
+        _ => kind,
+    }
+}
+
+/// Whether a number is one that is kept at a kind.
+pub fn is_kept(kind: IntKind, n: i128) -> bool
+    ensures { IsTrue result ↔ IsKept kind n }
+{
+    residue(kept_kind(kind), n).is_some()
 }

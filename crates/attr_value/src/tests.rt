@@ -245,3 +245,53 @@ fn a_head_says_what_it_is(rt: HostRuntime) -> Result<(), Fail> {
     assert!(rt; !dialect.is_type() && dialect.kids_ok(3) && !is_base(&dialect, BaseKind::UnitAttr));
     Ok(())
 }
+
+// A list of texts.
+fn texts(alloc: Global, names: &[&[u8]]) -> Result<List<Text>, AllocError> {
+    let mut texts = List::new(alloc);
+    for name in names {
+        texts.push(Text::from_slice(alloc, name)?)?;
+    }
+    Ok(texts)
+}
+
+#[test]
+fn a_head_keeps_to_its_rule(rt: HostRuntime) -> Result<(), Fail> {
+    let alloc = rt.alloc();
+    for (width, want) in [
+        (0, false),
+        (1, true),
+        (WIDTH_LIMIT, true),
+        (WIDTH_LIMIT + 1, false),
+    ] {
+        assert_eq!(rt; Head::Int(IntKind::Signed(width)).is_right(), want);
+    }
+    for (n, want) in [(-129, false), (-128, true), (127, true), (255, false)] {
+        let kind = IntKind::Signless(8);
+        assert_eq!(rt; Head::Number { kind, n }.is_right(), want);
+    }
+    for (kind, dim, want) in [
+        (ShapeKind::Vector, Dim::Known(0), false),
+        (ShapeKind::Vector, Dim::Known(1), true),
+        (ShapeKind::Vector, Dim::Unknown, false),
+        (ShapeKind::Tensor, Dim::Unknown, true),
+    ] {
+        let dims = List::from_slice(alloc, &[dim])?;
+        assert_eq!(rt; Head::Shaped { kind, dims }.is_right(), want);
+    }
+    for (width, item, want) in [(8, 127, true), (8, 128, false), (7, 0, false)] {
+        let items = List::from_slice(alloc, &[item])?;
+        assert_eq!(rt; Head::Dense { width, items }.is_right(), want);
+    }
+    for (first, second, want) in [
+        (b"a".as_slice(), b"ab".as_slice(), true),
+        (b"a", b"a", false),
+        (b"b", b"ab", false),
+    ] {
+        let keys = texts(alloc, &[first, second])?;
+        assert_eq!(rt; Head::Dict { keys }.is_right(), want);
+    }
+    let parts = texts(alloc, &[])?;
+    assert!(rt; !Head::Symbol { parts }.is_right() && Head::Unit.is_right());
+    Ok(())
+}

@@ -41,11 +41,6 @@ known-at n [] k within known = absurd (omega arith)
 known-at n (id ∷ ids) zero within known = known.0
 known-at n (id ∷ ids) (suc k) within known = known-at n ids k (omega arith) known.1
 
-pub length-kids-at : (values : List Value) (ids : List ValueId)
-    → length (list_of (kids_at values ids)) ≡ length ids
-length-kids-at values [] = refl
-length-kids-at values (id ∷ ids) = ap suc (length-kids-at values ids)
-
 -- as many variables as values
 pub have-lengths : (a : Assignment) (vars : List VarId) (xs : List Value) → HaveEach a vars xs
     → length vars ≡ length xs

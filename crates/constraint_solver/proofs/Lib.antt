@@ -5,6 +5,5 @@ pub mod Parts
 pub mod Tried
 pub mod Settled
 pub mod Found
-pub mod Order
 pub mod Goods
 pub mod Instances

@@ -5,11 +5,12 @@ use Rattle.attr_value.specs.declared.head.Head.TheVariants as h
 use Rattle.attr_value.specs.declared.head.ValueId.{ValueId}
 use Rattle.attr_value.specs.Ids.{kids_at}
 use Rattle.attr_value.specs.Values.{Value, value, list_of}
+use Rattle.attr_value.proofs.Kids.{length-kids-at}
 use Rattle.dialect_defs.specs.declared.body.Constraint.TheVariants.{Parametric}
 use Rattle.dialect_defs.specs.declared.body.VarId.{VarId}
 use Rattle.dialect_defs.specs.Assignments.{Tests, Assignment, HaveEach, Keeps}
 use Rattle.constraint_solver.specs.Search.{Forced, Refuted}
-use Rattle.constraint_solver.proofs.Filled.{length-kids-at, have-lengths}
+use Rattle.constraint_solver.proofs.Filled.{have-lengths}
 
 -- another property that the same assignments have
 forced-map : (n : ℕ) (old new : Assignment) (P Q : Assignment → Type 0)

@@ -9,7 +9,6 @@ ghost use Rattle.constraint_solver.specs.Definitions.{IsSoundDef, AreSoundDefs, 
 ghost use Rattle.constraint_solver.specs.Definitions.{IsInstanceOf};
 
 use crate::assign::{assign_params, empty_slots};
-use crate::heads::keeps_own_rule;
 use crate::search::solve_below;
 use attr_uniquer::Uniquer;
 use attr_value::{Head, Text, ValueId};
@@ -100,7 +99,7 @@ pub fn good_head(types: &[TypeDef], natives: &Natives, u: &Uniquer, id: ValueId)
         return false;
     }
     let (head, kids) = u.view(id);
-    if !keeps_own_rule(u, head, kids) {
+    if !u.keeps_own_rule(head, kids) {
         return false;
     }
     is_defined(types, natives, u, head, kids)

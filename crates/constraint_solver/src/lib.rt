@@ -10,7 +10,6 @@ mod assign;
 mod assignment;
 mod force;
 mod good;
-mod heads;
 mod search;
 mod sound;
 

@@ -3,11 +3,12 @@ use Rattle.std.proofs.Common.{true≢false, length, take}
 use Rattle.std.proofs.lemmas.List.{length-take-le}
 use Rattle.attr_value.specs.Ids.{kids_at}
 use Rattle.attr_value.specs.Values.{list_of}
+use Rattle.attr_value.proofs.Kids.{length-kids-at}
 use Rattle.dialect_defs.specs.Assignments.{HaveEach}
 use Rattle.dialect_defs.specs.Goodness.{vars_of}
 use Rattle.native_predicate.specs.Lists.{tests}
 use Rattle.constraint_solver.specs.Roots.{assigned}
-use Rattle.constraint_solver.proofs.Filled.{have-lengths, length-kids-at, length-vars}
+use Rattle.constraint_solver.proofs.Filled.{have-lengths, length-vars}
 use Rattle.constraint_solver.proofs.Found.{found-nothing, found-none, found-meets, found-has}
 use Rattle.constraint_solver.proofs.Settled.{each-grows}
 use Rattle.constraint_solver.proofs.good.is_instance_of.Goals as goal

@@ -2,7 +2,7 @@ use Rattle.std.proofs.Common.{◌↔◌, drop}
 use Rattle.std.specs.List.{AllByRecursion}
 use Rattle.attr_value.specs.declared.kind.IntKind.TheVariants.{Signless}
 use Rattle.attr_value.specs.Numbers.{IsKept}
-use Rattle.constraint_solver.proofs.heads.are_kept.Given as goal
+use Rattle.attr_value.proofs.rule.are_kept.Given as goal
 
 -- what is left decides the rest
 abbrev pub invariant-loop-item : goal.invariant-loop-item

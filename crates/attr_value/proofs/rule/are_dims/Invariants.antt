@@ -1,7 +1,7 @@
 use Rattle.std.proofs.Common.{◌↔◌, drop}
 use Rattle.std.specs.List.{AllByRecursion}
 use Rattle.attr_value.specs.Heads.{IsDim}
-use Rattle.constraint_solver.proofs.heads.are_dims.Given as goal
+use Rattle.attr_value.proofs.rule.are_dims.Given as goal
 
 -- what is left decides the rest
 abbrev pub invariant-loop-dim : goal.invariant-loop-dim

@@ -1,6 +1,6 @@
 use Rattle.std.proofs.Common.{◌↔◌, ◌-◌, drop}
 use Rattle.attr_value.specs.Heads.{Ascend}
-use Rattle.constraint_solver.proofs.heads.ascend.Given as goal
+use Rattle.attr_value.proofs.rule.ascend.Given as goal
 
 -- what is left, with the text before it, decides the rest
 abbrev pub invariant-loop-i : goal.invariant-loop-i

@@ -1,7 +1,7 @@
 use Rattle.std.proofs.Common.{◌≡◌, subst}
 use Rattle.attr_value.specs.Heads.{text_lt}
-use Rattle.constraint_solver.proofs.Order.{is-text-lt}
-use Rattle.constraint_solver.proofs.heads.stands_before.Goals as goal
+use Rattle.attr_value.proofs.Order.{is-text-lt}
+use Rattle.attr_value.proofs.rule.stands_before.Goals as goal
 
 pub returns : goal.returns
 returns c =

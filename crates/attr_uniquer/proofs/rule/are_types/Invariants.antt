@@ -3,7 +3,7 @@ use Rattle.std.specs.List.{AllByRecursion}
 use Rattle.attr_value.specs.Heads.{IsType}
 use Rattle.attr_value.specs.Ids.{kids_at, AreKnown}
 use Rattle.attr_value.specs.Values.{list_of}
-use Rattle.constraint_solver.proofs.heads.are_types.Given as goal
+use Rattle.attr_uniquer.proofs.rule.are_types.Given as goal
 
 -- what is left decides the rest
 abbrev pub invariant-loop-id : goal.invariant-loop-id

@@ -1,6 +1,6 @@
 use Rattle.std.proofs.Common.{◌-◌, drop, refl, arith, length-drop}
-use Rattle.constraint_solver.proofs.Order.{ascend-short}
-use Rattle.constraint_solver.proofs.heads.ascend.Goals as goal
+use Rattle.attr_value.proofs.Order.{ascend-short}
+use Rattle.attr_value.proofs.rule.ascend.Goals as goal
 
 pub returns : goal.returns
 returns c =
