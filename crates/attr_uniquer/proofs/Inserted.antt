@@ -2,11 +2,13 @@
 use Rattle.std.proofs.Common.{◌≡◌, ◌⊎◌, inl, inr, ℕ, ◌<◌, ◌≤◌, List, [], ◌∷◌, ◌++◌, length, get_or}
 use Rattle.std.proofs.Common.{refl, ap, sym, ◌∙◌, subst, arith, Some, Bool, true, false}
 use Rattle.std.proofs.Common.{length-append}
-use Rattle.std.proofs.Common.{if◌then◌else◌}
+use Rattle.std.proofs.Common.{if◌then◌else◌, Result, Ok, Err}
+use Rattle.std.specs.Prelude.{IfOk}
 use Rattle.std.specs.List.{list_any, slice_get}
 use Rattle.std.proofs.lemmas.Option.{slice_get_within, slice_get-get_or, get_or_from_slice_get}
 use Rattle.indexmap.specs.IndexSet.{insert_key}
 use Rattle.attr_value.specs.declared.head.Head.TheVariants as h
+use Rattle.attr_value.specs.declared.head.ValueId.{ValueId}
 use Rattle.attr_value.specs.Values.{Value, none, value, depth}
 use Rattle.attr_value.specs.Ids.{at, kids_at, AreKnown}
 use Rattle.attr_uniquer.specs.contracts.row.RowPartialEq.TheImpl as row
@@ -60,6 +62,7 @@ inserts-at old new r i sound known kept there =
       sound = sound;
     }
 
+-- inserting a row keeps its value
 pub inserts : (old new : List Row) (r : Row) (i : ℕ) → AreSound [] old
     → AreKnown (length old) r.kids → r.depth ≡ depth (value_of (values old) r)
     → new ≡ insert_key row.ghosts.eq old r
@@ -95,3 +98,9 @@ interned-within old new v i interned =
     by : ((new ≡ old) ⊎ (new ≡ old ++ v ∷ [])) → length old ≤ length new
     by (inl same) = omega (arith, ap length same)
     by (inr longer) = omega (arith, ap length longer, length-append old (v ∷ []))
+
+-- an id that is answered is that of a value of the new table
+pub known-if-ok : {E : Type 0} (old new : List Value) (v : Value) (r : Result ValueId E)
+    → IfOk r (λ id. Interned old new v id.0) → IfOk r (λ id. id.0 < length new)
+known-if-ok old new v (Ok id) interned = (interned-within old new v id.0 interned).0
+known-if-ok old new v (Err e) interned = tt

@@ -1,10 +1,10 @@
 //! The rows of the table, and what is looked up in them.
 
-ghost use Rattle.std.specs.Prelude.{◌≡◌, ◌+◌, ◌^◌, ◌<◌, ◌≤◌, [], length, IfOk, OnErr};
-ghost use Rattle.attr_value.specs.Values.{depth, greatest_depth};
-ghost use Rattle.attr_value.specs.Ids.{kids_at, AreKnown};
+ghost use Rattle.std.specs.Prelude.{◌≡◌, ◌+◌, ◌^◌, ◌<◌, [], length, IfOk, OnErr};
+ghost use Rattle.attr_value.specs.Values.{greatest_depth};
+ghost use Rattle.attr_value.specs.Ids.{kids_at, AreKnown, AreDistinct};
 ghost use Rattle.attr_uniquer.specs.Interned.{Interned};
-ghost use Rattle.attr_uniquer.specs.Rows.{values, value_of, AreSound, IsRowAt};
+ghost use Rattle.attr_uniquer.specs.Rows.{values, value_of, AreSound, IsNextRow, IsRowAt};
 
 use attr_value::{Head, List, ValueId};
 use indexmap::IndexSet;
@@ -44,14 +44,12 @@ pub fn depth_over(rows: &[Row], kids: &[ValueId]) -> usize
 /// The id of a row, which is added where it isn't there.
 pub fn intern_row(rows: &mut IndexSet<Row>, row: Row) -> Result<ValueId, AllocError>
     requires sound { AreSound [] rows.old.keys }
-    requires known { AreKnown (length rows.old.keys) row.kids }
-    requires deep { row.depth ≡ depth (value_of (values rows.old.keys) row) }
+    requires next { IsNextRow rows.old.keys row }
     ensures ok { IfOk result (λ id. Interned (values rows.old.keys) (values rows.new.keys)
         (value_of (values rows.old.keys) row) id.0) }
-    ensures within { IfOk result (λ id. id.0 < length (values rows.new.keys)) }
-    ensures later { length (values rows.old.keys) ≤ length (values rows.new.keys) }
     ensures err { OnErr result (rows.new.keys ≡ rows.old.keys) }
     ensures sound { AreSound [] rows.new.keys }
+    ensures distinct { AreDistinct (values rows.new.keys) }
 {
     let (index, _) = rows.insert_full(row)?;
     Ok(ValueId(index))

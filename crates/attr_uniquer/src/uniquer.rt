@@ -63,6 +63,7 @@ impl Uniquer {
             Interned self.old self.new (value head (kids_at self.old kids.now)) id.0) }
         ensures known { IfOk result (λ id. id.0 < length self.new) }
         ensures later { length self.old ≤ length self.new }
+        ensures distinct { AreDistinct self.new }
         ensures err { OnErr result (self.new ≡ self.old) }
     {
         let depth = depth_over(self.rows.as_slice(), kids);
@@ -70,11 +71,12 @@ impl Uniquer {
         intern_row(&mut self.rows, Row { head, kids, depth })
     }
 
-    /// The head and the kids of a value. It takes no memory.
+    /// The head and the kids of a value. Kids have lesser ids. It takes no memory.
     pub fn view(&self, id: ValueId) -> (&Head, &[ValueId])
         requires { id.0 < length self.now }
         ensures value { at self.now id.0 ≡ value result.0.now (kids_at self.now result.1.now) }
         ensures known { AreKnown (length self.now) result.1.now }
+        ensures earlier { AreKnown id.0 result.1.now }
     {
         let row = row_at(self.rows.as_slice(), id);
         (&row.head, row.kids.as_slice())
