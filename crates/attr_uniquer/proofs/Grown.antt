@@ -10,6 +10,7 @@ use Rattle.attr_value.specs.Ids.{at, kids_at, AreKnown}
 use Rattle.attr_uniquer.specs.declared.row.Row.{Row}
 use Rattle.attr_uniquer.specs.Rows.{value_of, grow, values, AreSound, IsRowAt}
 
+-- as many values as there were, and one for each row
 pub length-grow : (vs : List Value) (rows : List Row)
     → length (grow vs rows) ≡ length vs + length rows
 length-grow vs [] = omega arith
@@ -17,18 +18,20 @@ length-grow vs (row ∷ rows) =
     let longer = length-append vs (value_of vs row ∷ []) in
     omega (arith, length-grow (vs ++ value_of vs row ∷ []) rows, longer)
 
+-- as many values as rows
 pub length-values : (rows : List Row) → length (values rows) ≡ length rows
 length-values rows = omega (arith, length-grow [] rows)
 
--- as many rows as values
+-- as many rows as values, where the values have a name
 pub as-many : (rows : List Row) (vs : List Value) → values rows ≡ vs → length rows ≡ length vs
 as-many rows vs same = sym (length-values rows) ∙ ap length same
 
--- a value is added, and earlier ones stay
+-- where a value is added, earlier ones stay
 pub at-push : (vs : List Value) (v : Value) (i : ℕ) → i < length vs
     → at (vs ++ v ∷ []) i ≡ at vs i
 at-push vs v i within = get_or-append vs (v ∷ []) (value h.Unit none) i within
 
+-- where rows are added, earlier values stay
 pub at-grow : (vs : List Value) (rows : List Row) (i : ℕ) → i < length vs
     → at (grow vs rows) i ≡ at vs i
 at-grow vs [] i within = refl
@@ -51,16 +54,18 @@ kids-at-grow : (vs : List Value) (rows : List Row) (ids : List ValueId)
     → AreKnown (length vs) ids → kids_at (grow vs rows) ids ≡ kids_at vs ids
 kids-at-grow vs rows ids known = kids-at-same vs (grow vs rows) ids (at-grow vs rows) known
 
+-- ids that are known stay known in a longer table
 pub known-more : (m n : ℕ) (ids : List ValueId) → m ≤ n → AreKnown m ids → AreKnown n ids
 known-more m n [] more known = tt
 known-more m n (id ∷ ids) more known = (omega arith, known-more m n ids more known.1)
 
--- one more row
+-- one more row adds its value
 pub grow-push : (vs : List Value) (rows : List Row) (row : Row)
     → grow vs (rows ++ row ∷ []) ≡ grow vs rows ++ value_of (grow vs rows) row ∷ []
 grow-push vs [] row = refl
 grow-push vs (first ∷ rows) row = grow-push (vs ++ value_of vs first ∷ []) rows row
 
+-- rows stay sound with one more that may come behind them
 pub sound-push : (vs : List Value) (rows : List Row) (row : Row) → AreSound vs rows
     → AreKnown (length (grow vs rows)) row.kids
     → row.depth ≡ depth (value_of (grow vs rows) row) → AreSound vs (rows ++ row ∷ [])

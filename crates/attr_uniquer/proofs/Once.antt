@@ -16,6 +16,7 @@ use Rattle.attr_uniquer.specs.declared.row.Row.{Row}
 use Rattle.attr_uniquer.specs.Rows.{values, AreSound, IsRowAt}
 use Rattle.attr_uniquer.proofs.Grown.{length-values, known-more, row-at-grow}
 
+-- ids that `==` finds equal are equal
 pub same-id : TellsApart value_id.ghosts.eq
 same-id a b same = let number = exact_unsigned_eq a.0 b.0 same in λ i. record { 0 = number i }
 
@@ -93,6 +94,7 @@ module _ (rows : List Row) (d : Row) (sound : AreSound [] rows)
       let one_id : i ≡ j = λ n. record { 0 = one_place n } in
       cc
 
+  -- no two of the rows have one value
   pub values-distinct : AreDistinct (values rows)
   values-distinct i j i_within j_within same =
       let long = length-values rows in

@@ -11,6 +11,7 @@ use Rattle.attr_uniquer.specs.declared.row.Row.{Row}
 use Rattle.attr_uniquer.specs.Rows.{value_of, grow, values, AreSound}
 use Rattle.attr_uniquer.proofs.Grown.{at-push}
 
+-- each value is no deeper than its place and one
 abbrev AreShallow : List Value → Type 0
 AreShallow vs = (i : ℕ) → i < length vs → depth (at vs i) ≤ i + 1
 
@@ -41,18 +42,21 @@ shallow-grow vs (row ∷ rows) sound shallow =
     let more = shallow-push vs (value_of vs row) shallow (omega (arith, kids)) in
     shallow-grow (vs ++ value_of vs row ∷ []) rows sound.2 more
 
+-- the values of sound rows are shallow
 pub shallow-rows : (rows : List Row) → AreSound [] rows → AreShallow (values rows)
 shallow-rows rows sound = shallow-grow [] rows sound (λ i within. absurd (omega arith))
 
--- the id at a place, and those behind it
+-- the ids from a place on are the one there, and those behind it
 next-id : (ids : List ValueId) (i : ℕ) (d : ValueId) → i < length ids
     → drop i ids ≡ get_or ids i d ∷ drop (i + 1) ids
 next-id ids i d within = rw add-one (drop-cons ids i d within)
 
+-- where the ids from a place on are known, so are the one there and those behind it
 pub next-known : (n : ℕ) (ids : List ValueId) (i : ℕ) (d : ValueId) → i < length ids
     → AreKnown n (drop i ids) → ((get_or ids i d).0 < n) × AreKnown n (drop (i + 1) ids)
 next-known n ids i d within known = subst (AreKnown n) (next-id ids i d within) known
 
+-- the greatest depth from a place on is that of the value there, or of those behind it
 pub next-depth : (vs : List Value) (ids : List ValueId) (i : ℕ) (d : ValueId) → i < length ids
     → greatest_depth (kids_at vs (drop i ids))
     ≡ max (depth (at vs (get_or ids i d).0)) (greatest_depth (kids_at vs (drop (i + 1) ids)))

@@ -8,6 +8,7 @@ use Rattle.attr_value.specs.declared.kind.FloatKind.TheVariants as f
 use Rattle.attr_value.specs.declared.base.TheConstants.{BASES}
 use Rattle.attr_value.specs.Bases.{base_name, first_named}
 
+-- the table has each kind for its name, by computing
 named-name-of : (base : BaseKind) → first_named BASES (base_name base) ≡ Some base
 named-name-of b.Integer = refl
 named-name-of b.Index = refl
@@ -46,10 +47,11 @@ found : (bases : List BaseKind) (s : List ℕ)
 found [] s = tt
 found (base ∷ bases) s = first-by base _ s _ refl (found bases s)
 
--- what the table has for a name: a kind of that name, and the only one
+-- what the table has for a name is a kind of that name
 pub table-named : (s : List ℕ) → IfSome (first_named BASES s) (λ b. base_name b ≡ s)
 table-named s = found BASES s
 
+-- the table has each kind for its name
 pub only-named : (s : List ℕ) (base : BaseKind) → base_name base ≡ s
     → first_named BASES s ≡ Some base
 only-named s base same = ap (first_named BASES) (sym same) ∙ named-name-of base

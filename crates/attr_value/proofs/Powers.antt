@@ -10,5 +10,6 @@ twice n one =
     let next : suc (n - 1) ≡ n = omega arith in
     sym (pow-succ' 2 (n - 1)) ∙ ap (λ m. 2 ^ m) next
 
+-- the same of signed numbers
 pub twice-power : (n : ℕ) → 1 ≤ n → (pos 2 *ℤ power (n - 1)) ≡ power n
 twice-power n one = ap pos (twice n one)

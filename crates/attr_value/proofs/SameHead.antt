@@ -7,6 +7,7 @@ use Rattle.attr_value.proofs.Same.{TellsApart, both-true, same-list, same-text, 
 use Rattle.attr_value.proofs.Same.{same-bool, same-dim, same-int-kind, same-float-kind}
 use Rattle.attr_value.proofs.Same.{same-shape-kind}
 
+-- `==` of heads tells them apart
 pub same-head : TellsApart head.ghosts.eq
 same-head (h.Int a) (h.Int b) same = ap h.Int (same-int-kind a b same)
 same-head h.NoneType h.NoneType same = refl

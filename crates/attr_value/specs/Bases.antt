@@ -1,9 +1,12 @@
 -- The kinds of heads that definitions name.
 --
---   base_name base       the kind's name in definition files
---   first_named bases s   the first of some kinds that has the name s
---   base_of head       the kind of a head, where it has one
---   IsOfBase head b    the head is of the kind b
+--   float_word kind        the word of a float type
+--   base_name base         the kind's name in definition files
+--   first_named bases s    the first of some kinds that has the name s
+--   base_of_int kind       the kind of an integer type
+--   base_of_shape kind     the kind of a shaped type
+--   base_of head           the kind of a head, where it has one
+--   IsOfBase head base     the head is of the kind
 use Rattle.std.specs.Prelude.{◌≡◌, ℕ, List, ◌++◌, codes, find, bytes_eq}
 use Rattle.std.specs.declared.option.Option.{Option}
 use Rattle.std.specs.declared.option.Option.TheVariants.{Some, None}

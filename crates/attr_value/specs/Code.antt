@@ -1,6 +1,11 @@
 -- A value as a list of heads that gives it back, so that a table of values can be a model.
 --
---   value_code     the code of a value: each head with the number of heads below it, in order
+--   encoded vs           each head with the number of heads among its kids, in order
+--   decoded_in n heads   the values that are written so, in n steps at most
+--   decoded heads        the value that is written so
+--   value_code           the code of a value, which is `encoded`
+--
+-- Inside: no public clause rests on this.
 use Rattle.std.specs.Prelude.{◌≡◌, ℕ, zero, suc, ◌≤◌, List, [], ◌∷◌, ◌++◌}
 use Rattle.std.specs.Prelude.{length, take, drop, refl}
 use Rattle.std.proofs.Common.{ap, arith, length-append}
@@ -24,6 +29,7 @@ decoded_in (suc steps) [] = none
 decoded_in (suc steps) (first ∷ heads) =
     more first.0 (decoded_in steps (take first.1 heads)) (decoded_in steps (drop first.1 heads))
 
+-- the values are read back in as many steps as there are heads
 pub decoded_in-encoded : (steps : ℕ) (vs : Values) → length (encoded vs) ≤ steps
     → decoded_in steps (encoded vs) ≡ vs
 decoded_in-encoded zero none within = refl
@@ -44,6 +50,7 @@ abbrev pub decoded : List (Head × ℕ) → Value
 decoded [] = value h.Unit none
 decoded (first ∷ heads) = value first.0 (decoded_in (length heads) heads)
 
+-- a value is read back
 pub decoded-encoded : (v : Value) → decoded ((v.head, 0) ∷ encoded v.kids) ≡ v
 decoded-encoded v = ap (value v.head) (decoded_in-encoded _ v.kids (omega arith))
 

@@ -1,7 +1,15 @@
 -- What the head of a value keeps to by itself, whatever dialects define.
 --
 --   is_type_head head        values with this head are types
+--   IsType v                 the value is a type
 --   MayHaveKids head n       a value with this head may have n kids
+--   is_made_of_types head    the kids of a value with this head are types
+--   IsTypeWidth width        an integer type may be so wide, in bits
+--   IsIntType kind           an integer type may be of this kind
+--   IsDim kind dim           a shape of this kind may have the dimension
+--   IsDenseWidth width       the items of a dense array may be so wide, in bits
+--   text_lt a b              the text a stands before b by the order of bytes
+--   Ascend texts             each text stands before the next
 --   HeadIsRight head         widths, kept numbers, dimensions, keys and parts of the head are right
 --   OwnRule head kids        a value of this head and these kids keeps to its head's rule
 use Rattle.std.specs.Prelude.{◌≡◌, ◌⊎◌, ℕ, ◌^◌, ◌<◌, ◌≤◌, Bool, true, false, ◌&&◌, ◌||◌, ◌==◌}

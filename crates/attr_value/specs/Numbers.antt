@@ -1,9 +1,14 @@
 -- The numbers of integer types: which may be written, and which are kept.
 --
---   HasNumbers kind     numbers may have an integer type of the kind
---   IsInRange kind n    the number n may be written at the kind
---   kept kind n         the number that is kept of n
---   IsKept kind n       n is a number that is kept at the kind
+--   power n               2 to the power of n, as a signed number
+--   IsNumberWidth width   numbers may be so wide
+--   HasNumbers kind       numbers may have an integer type of the kind
+--   lowest kind           the least number that may be written at the kind
+--   limit kind            one more than the greatest
+--   IsInRange kind n      the number n may be written at the kind
+--   kept kind n           the number that is kept of n
+--   kept_kind kind        the kind in whose range the kept numbers lie
+--   IsKept kind n         n is a number that is kept at the kind
 use Rattle.std.specs.Prelude.{ℕ, ◌-◌, ◌^◌, ◌≤◌, ℤ, pos, neg_ℤ, ◌-ℤ◌, ◌≤ℤ◌, ◌<ℤ◌, int_le}
 use Rattle.std.specs.Prelude.{if◌then◌else◌}
 use Rattle.attr_value.specs.declared.kind.IntKind.{IntKind}

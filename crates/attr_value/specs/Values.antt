@@ -4,10 +4,12 @@
 -- results, those of a dictionary the values in the order of its keys, those of a dialect's value
 -- its parameters, and the kid of a shaped or complex type is its element type.
 --
---   Values       a list of values
---   Value        a value
---   list_of vs   the values of such a list, one by one
---   depth v      1 without kids, else one more than the greatest depth of a kid
+--   Values              a list of values
+--   Value               a value
+--   value head kids     the value with this head and these kids
+--   list_of vs          the values of such a list, one by one
+--   greatest_depth vs   the greatest depth in such a list
+--   depth v             1 without kids, else one more than the greatest depth of a kid
 use Rattle.std.specs.Prelude.{ℕ, ◌+◌, List, [], ◌∷◌, max}
 use Rattle.attr_value.specs.declared.head.Head.{Head}
 
@@ -29,11 +31,6 @@ value head kids = record { head = head; kids = kids }
 abbrev pub list_of : Values → List Value
 list_of none = []
 list_of (more head kids rest) = value head kids ∷ list_of rest
-
--- these values, as the kids of one
-abbrev pub values_of : List Value → Values
-values_of [] = none
-values_of (v ∷ vs) = more v.head v.kids (values_of vs)
 
 -- the greatest depth in a list, 0 where it has no value
 abbrev pub greatest_depth : Values → ℕ

@@ -8,8 +8,11 @@
 --   the_weighed     a value in a list is smaller than the list
 --   the_empty       a list that holds nothing
 --   the_items       the values that a list holds, in order
+--   the_items_listed  these are the values that the shape lists
 --   the_places      the struct holds its values alike whatever they are
 --   the_codes_placed  the codes of lists follow the codes of their values
+--
+-- Inside: no public clause rests on this.
 use mathlib.Core.Path.{◌≡◌, refl, sym}
 use mathlib.Core.List.{List, []}
 use mathlib.Core.Former.{Former, this, list, via, children}
@@ -30,18 +33,23 @@ use Rattle.attr_value.specs.declared.list.List.TheView.{view, invariant}
 use Rattle.attr_value.specs.contracts.list.List as C
 use Rattle.attr_value.specs.contracts.list.List.TheInside as I
 
+-- the shape: a list of values
 abbrev pub the_former : Former {0} → Former {0}
 the_former g = list g
 
+-- a value in a list is smaller than the list
 abbrev pub the_weighed : {g : Former {0}} → Weighed g → Weighed (the_former g)
 the_weighed w = w_list w
 
+-- a list that holds nothing
 pub the_empty : List ⊥
 the_empty = []
 
+-- the values that a list holds, in order
 abbrev pub the_items : (X : Type 0) → List X → List X
 the_items X d = d
 
+-- these are the values that the shape lists
 pub the_items_listed : (X : Type 0) (d : List X) →
     listed _ (children (the_former this) X d) ≡ the_items X d
 the_items_listed X d = list-listed X d
@@ -53,6 +61,7 @@ fields =
     (λ X a. a.items) (λ X v. record { items = v }) (λ X a. refl) (λ X v. refl)
 
 module _ (R S : RattleType) (h : R.Denot → S.Denot) where
+  -- the struct holds its values alike whatever they are
   pub the_places : Alike R S h →
       Alike (C.the_row R) (C.the_row S) ((the_former this).map R.Denot S.Denot h)
   the_places a =
@@ -64,6 +73,7 @@ module _ (R S : RattleType) (h : R.Denot → S.Denot) where
       (struct_places (I.the_type R) (I.the_type S) (vec.mapped h, tt) _ (λ d. refl) refl
       (laid _ _ _ (vec.the_places heap.the_row ghosts R S h a), tt))
 
+  -- the codes of lists follow the codes of their values
   pub the_codes_placed : Recodes R S h →
       Recodes (C.the_row R) (C.the_row S) ((the_former this).map R.Denot S.Denot h)
   the_codes_placed e d = sym (code_map R.coded.code S.coded.code h (λ x. sym (e x)) d)
