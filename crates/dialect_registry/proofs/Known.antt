@@ -4,12 +4,13 @@ use Rattle.std.specs.List.{list_any}
 use Rattle.std.specs.declared.option.Option.{Option}
 use Rattle.std.specs.declared.option.Option.TheVariants.{Some, None}
 use Rattle.ir_lexer.specs.Spelling.{Text}
-use Rattle.dialect_registry.specs.declared.code.DefFault.{DefFault}
+use Rattle.first_fault.specs.declared.fault.Fault.{Fault}
 use Rattle.dialect_registry.specs.declared.scope.Scope.{Scope}
-use Rattle.dialect_registry.specs.First.{earlier_of, noted}
-use Rattle.dialect_registry.specs.NameFaults.{NameMark, defines, labels, uses, defines_name, labels_name, is_defined, is_label, repeated, unknown, fault_of, IsFaultIn, IsFirst}
-use Rattle.dialect_registry.specs.Scopes.{holds, Knows}
-use Rattle.dialect_registry.proofs.Firsts.{first-more, first-none}
+use Rattle.first_fault.specs.Firsts.{earlier_of, IsFirst}
+use Rattle.dialect_registry.specs.NameFaults.{NameMark, defines, labels, uses, defines_name, labels_name, is_defined, is_label, repeated, unknown, fault_of, IsFaultIn}
+use Rattle.dialect_registry.specs.Scopes.{holds, noted, Knows}
+use Rattle.first_fault.proofs.Firsts.{earlier_of-right-none}
+use Rattle.first_fault.proofs.Rules.{first-more, first-none}
 
 any-more : (p : NameMark → Bool) (ms : List NameMark) (m : NameMark)
     → list_any p (ms ++ m ∷ []) ≡ (p m || list_any p ms)
@@ -22,18 +23,14 @@ any-more p (x ∷ ms) m = go (p x) (p m) (any-more p ms m)
     go true false e = refl
     go false b e = e
 
-earlier-none : (a : Option DefFault) → earlier_of a None ≡ a
-earlier-none None = refl
-earlier-none (Some a) = refl
-
-noted-is : (known : Bool) (a : Option DefFault) (f : DefFault)
+noted-is : (known : Bool) (a : Option Fault) (f : Fault)
     → noted known a f ≡ earlier_of a (if known then Some f else None)
 noted-is true a f = refl
-noted-is false a f = sym (earlier-none a)
+noted-is false a f = sym (earlier_of-right-none a)
 
-noted-not : (known : Bool) (a : Option DefFault) (f : DefFault)
+noted-not : (known : Bool) (a : Option Fault) (f : Fault)
     → noted (not known) a f ≡ earlier_of a (if known then None else Some f)
-noted-not true a f = sym (earlier-none a)
+noted-not true a f = sym (earlier_of-right-none a)
 noted-not false a f = refl
 
 module _ (ms : List NameMark) (place : ℕ) (name : Text) (old new : Scope) (k : Knows ms old) where
@@ -54,7 +51,7 @@ module _ (ms : List NameMark) (place : ℕ) (name : Text) (old new : Scope) (k :
         first ∙ noted-is known old.first (repeated place)
         ∙ ap (λ b. earlier_of old.first (if b then Some (repeated place) else None)) e in
         subst (IsFirst (IsFaultIn (ms ++ defines place name ∷ []))) (sym f)
-        (first-more ms (defines place name) old.first k.first);
+        (first-more fault_of ms (defines place name) old.first k.first);
   }
 
   -- what a scope knows once an entry has a name
@@ -74,7 +71,7 @@ module _ (ms : List NameMark) (place : ℕ) (name : Text) (old new : Scope) (k :
         first ∙ noted-is known old.first (repeated place)
         ∙ ap (λ b. earlier_of old.first (if b then Some (repeated place) else None)) e in
         subst (IsFirst (IsFaultIn (ms ++ labels place name ∷ []))) (sym f)
-        (first-more ms (labels place name) old.first k.first);
+        (first-more fault_of ms (labels place name) old.first k.first);
   }
 
   -- what a scope knows once a value name is used
@@ -93,11 +90,11 @@ module _ (ms : List NameMark) (place : ℕ) (name : Text) (old new : Scope) (k :
         first ∙ noted-not known old.first (unknown place)
         ∙ ap (λ b. earlier_of old.first (if b then None else Some (unknown place))) e in
         subst (IsFirst (IsFaultIn (ms ++ uses place name ∷ []))) (sym f)
-        (first-more ms (uses place name) old.first k.first);
+        (first-more fault_of ms (uses place name) old.first k.first);
   }
 
 -- a scope with no name and no fault has seen nothing
 pub knows-none : (s : Scope) → ((name : Text) → holds s.defined name ≡ false)
     → ((name : Text) → holds s.labelled name ≡ false) → s.first ≡ None → Knows [] s
 knows-none s d l f =
-    record { defined = d; labelled = l; first = subst (IsFirst (IsFaultIn [])) (sym f) first-none }
+    record { defined = d; labelled = l; first = subst (IsFirst (IsFaultIn [])) (sym f) (first-none fault_of) }

@@ -1,4 +1,3 @@
-pub mod Firsts
+pub mod Codes
 pub mod Known
-pub mod Once
 pub mod Walks

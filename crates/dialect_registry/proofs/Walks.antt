@@ -7,12 +7,12 @@ use Rattle.std.proofs.lemmas.Grind.{flat_map-append}
 use Rattle.std.proofs.lemmas.List.{map-append, take_more}
 use Rattle.std.proofs.lemmas.List.Elements.{Contains-append_left, Contains-append_right, Contains-append_cases}
 use Rattle.std.proofs.Math.Seq.{take-length}
-use Rattle.dialect_registry.specs.declared.code.DefFault.{DefFault}
+use Rattle.first_fault.specs.declared.fault.Fault.{Fault}
 use Rattle.dialect_registry.specs.declared.scope.Scope.{Scope}
-use Rattle.dialect_registry.specs.First.{earlier_of}
-use Rattle.dialect_registry.specs.NameFaults.{NameMark, Among, IsFirst}
+use Rattle.first_fault.specs.Firsts.{earlier_of, IsFirst}
+use Rattle.dialect_registry.specs.NameFaults.{NameMark, Among}
 use Rattle.dialect_registry.specs.Scopes.{Knows}
-use Rattle.dialect_registry.proofs.Firsts.{first-same, first-either}
+use Rattle.first_fault.proofs.Firsts.{first-same, first-either}
 
 -- the marks of one item more
 marks-more : {A : Type 0} (f : A → List NameMark) (xs : List A) (i : ℕ) (d : A) (ms : List NameMark)
@@ -69,8 +69,8 @@ contains-one x y (k, less, is) = only k less is
     only (suc k) less is = absurd (omega arith)
 
 -- with one item more, the first fault is the earlier of the first so far and the item's own
-pub among-more : {A : Type 0} (P : A → DefFault → Type 0) (xs : List A) (i : ℕ) (x : A)
-    (a b : Option DefFault) → i < length xs → x ≡ get_or xs i x
+pub among-more : {A : Type 0} (P : A → Fault → Type 0) (xs : List A) (i : ℕ) (x : A)
+    (a b : Option Fault) → i < length xs → x ≡ get_or xs i x
     → IsFirst (Among P (take i xs)) a → IsFirst (P x) b
     → IsFirst (Among P (take (i + 1) xs)) (earlier_of a b)
 among-more {A = A} P xs i x a b less is first one =
@@ -80,22 +80,22 @@ among-more {A = A} P xs i x a b less is first one =
     (first-same (λ f. Among P (take i xs) f ⊎ P x f) (Among P (take i xs ++ x ∷ []))
     (earlier_of a b) to back (first-either (Among P (take i xs)) (P x) a b first one))
   where
-    to : (f : DefFault) → Among P (take i xs) f ⊎ P x f → Among P (take i xs ++ x ∷ []) f
+    to : (f : Fault) → Among P (take i xs) f ⊎ P x f → Among P (take i xs ++ x ∷ []) f
     to f (inl (y, has, p)) = (y, Contains-append_left (take i xs) (x ∷ []) y has, p)
     to f (inr p) = (x, Contains-append_right (take i xs) (x ∷ []) x (0, omega arith, refl), p)
 
-    back : (f : DefFault) → Among P (take i xs ++ x ∷ []) f → Among P (take i xs) f ⊎ P x f
+    back : (f : Fault) → Among P (take i xs ++ x ∷ []) f → Among P (take i xs) f ⊎ P x f
     back f (y, has, p) = elim (Contains-append_cases (take i xs) (x ∷ []) y has) [
       | inl h ↦ inl (y, h, p)
       | inr h ↦ inr (subst (λ (z : A). P z f) (sym (contains-one x y h)) p)
     ]
 
 -- without items there is no fault
-pub among-none : {A : Type 0} (P : A → DefFault → Type 0) → IsFirst (Among P []) None
+pub among-none : {A : Type 0} (P : A → Fault → Type 0) → IsFirst (Among P []) None
 among-none P = λ f (x, has, p). absurd (let h = has.1 in omega arith)
 
 -- at the end of a walk, the first fault is that of every item
-pub among-all : {A : Type 0} (P : A → DefFault → Type 0) (xs : List A) (i : ℕ) (a : Option DefFault)
+pub among-all : {A : Type 0} (P : A → Fault → Type 0) (xs : List A) (i : ℕ) (a : Option Fault)
     → i ≤ length xs → length xs ≤ i
     → IsFirst (Among P (take i xs)) a → IsFirst (Among P xs) a
 among-all P xs i a most least first =

@@ -1,4 +1,3 @@
 pub mod Codes
-pub mod First
 pub mod NameFaults
 pub mod Scopes

@@ -8,15 +8,18 @@
 --   a use means a value name that is defined earlier in the same body
 --
 --   NameMark               one thing that a text says of a name
---   fault_of before m  the fault of the mark m, behind those before it
---   IsFaultIn ms f     f is the fault of a mark of ms
---   IsFault defs f     f is a fault of the file
---   IsFirst P first    first is the least of the faults of P, by place and then by code, or none
---                      where P has none
-use Rattle.std.specs.Prelude.{◌≡◌, ℕ, ◌<◌, ◌≤◌, ◌⊎◌, Bool, false, List, [], ◌∷◌, ◌++◌, map, Contains, bytes_eq, if◌then◌else◌}
+--   marks_of_body def      what the body of a definition says of names
+--   marks_of_dialect d     what a dialect says of its definitions' names
+--   fault_of before m      the fault of the mark m, behind those before it
+--   IsFaultIn ms f         f is the fault of a mark of ms
+--   Among P xs f           f is a fault of one of xs
+--   IsFault defs f         f is a fault of the file
+use Rattle.std.specs.Prelude.{ℕ, ◌⊎◌, Bool, false, List, [], ◌∷◌, ◌++◌, map, Contains, bytes_eq, if◌then◌else◌}
 use Rattle.std.specs.List.{list_any, flat_map}
 use Rattle.std.specs.declared.option.Option.{Option}
 use Rattle.std.specs.declared.option.Option.TheVariants.{Some, None}
+use Rattle.first_fault.specs.declared.fault.Fault.{Fault}
+use Rattle.first_fault.specs.Firsts.{IsFaultBy}
 use Rattle.ir_lexer.specs.Spelling.{Text}
 use Rattle.generic_syntax.specs.declared.cst.NameCst.{NameCst}
 use Rattle.irdl_ops.specs.declared.raw.RawDef.{RawDef}
@@ -25,9 +28,8 @@ use Rattle.irdl_ops.specs.declared.raw.RawDialect.{RawDialect}
 use Rattle.irdl_ops.specs.declared.raw.RawEntry.{RawEntry}
 use Rattle.irdl_ops.specs.declared.raw.StatementKind.{StatementKind}
 use Rattle.irdl_ops.specs.declared.raw.StatementKind.TheVariants.{Constraint, Operands, Results}
-use Rattle.dialect_registry.specs.declared.code.DefFault.{DefFault}
 use Rattle.dialect_registry.specs.declared.code.DefCode.TheVariants.{NameRepeated, RefUnknown}
-use Rattle.dialect_registry.specs.Codes.{code_number}
+use Rattle.dialect_registry.specs.Codes.{refusal}
 
 -- one thing that a text says of a name, and the place of that name
 pub data NameMark : Type 0 where
@@ -85,54 +87,38 @@ abbrev pub is_label : List NameMark → Text → Bool
 is_label ms name = list_any (labels_name name) ms
 
 -- the name at this place stands earlier
-abbrev pub repeated : ℕ → DefFault
-repeated place = record { place = place; code = NameRepeated }
+abbrev pub repeated : ℕ → Fault
+repeated place = refusal place NameRepeated
 
 -- the name at this place isn't defined earlier
-abbrev pub unknown : ℕ → DefFault
-unknown place = record { place = place; code = RefUnknown }
+abbrev pub unknown : ℕ → Fault
+unknown place = refusal place RefUnknown
 
 -- the fault of a mark, behind those before it, where it has one
-abbrev pub fault_of : List NameMark → NameMark → Option DefFault
+abbrev pub fault_of : List NameMark → NameMark → Option Fault
 fault_of before (defines place name) =
     if is_defined before name then Some (repeated place) else None
 fault_of before (labels place name) = if is_label before name then Some (repeated place) else None
 fault_of before (uses place name) = if is_defined before name then None else Some (unknown place)
 
 -- a fault of one of the marks, each behind those before it
-pub record IsFaultIn (ms : List NameMark) (f : DefFault) : Type 0 where
-  pub before : List NameMark
-  pub mark : NameMark
-  pub after : List NameMark
-  pub cut : ms ≡ before ++ mark ∷ after
-  pub is : fault_of before mark ≡ Some f
+abbrev pub IsFaultIn : List NameMark → Fault → Type 0
+IsFaultIn ms = IsFaultBy fault_of ms
 
 -- ---- the faults of a file
 
 -- a fault of one of these things
-abbrev pub Among : {A : Type 0} → (A → DefFault → Type 0) → List A → DefFault → Type 0
+abbrev pub Among : {A : Type 0} → (A → Fault → Type 0) → List A → Fault → Type 0
 Among {A = A} P xs f = (x : A) × Contains xs x × P x f
 
 -- a fault of the body of a definition
-abbrev pub IsBodyFault : RawDef → DefFault → Type 0
+abbrev pub IsBodyFault : RawDef → Fault → Type 0
 IsBodyFault def = IsFaultIn (marks_of_body def)
 
 -- a fault of a dialect: of its definitions' names, or of one of their bodies
-abbrev pub IsDialectFault : RawDialect → DefFault → Type 0
+abbrev pub IsDialectFault : RawDialect → Fault → Type 0
 IsDialectFault dialect f = IsFaultIn (marks_of_dialect dialect) f ⊎ Among IsBodyFault dialect.defs f
 
 -- a fault of a definition file
-abbrev pub IsFault : RawDefs → DefFault → Type 0
+abbrev pub IsFault : RawDefs → Fault → Type 0
 IsFault defs = Among IsDialectFault defs.dialects
-
--- ---- the first of the faults
-
--- f comes no later than g: its place is less, or it is the same and the code isn't greater
-abbrev pub NoLater : DefFault → DefFault → Type 0
-NoLater f g =
-    (f.place < g.place) ⊎ ((f.place ≡ g.place) × (code_number f.code ≤ code_number g.code))
-
--- the first of the faults, or none where there is no fault
-abbrev pub IsFirst : (DefFault → Type 0) → Option DefFault → Type 0
-IsFirst P None = (f : DefFault) → P f → ⊥
-IsFirst P (Some f) = P f × ((g : DefFault) → P g → NoLater f g)

@@ -1,6 +1,8 @@
 //! The rules of definition files, and where they are broken.
 
-ghost use Rattle.std.specs.Prelude.{◌≡◌};
+ghost use Rattle.std.specs.Prelude.{◌≡◌, ◌↔◌, Some};
+
+use first_fault::Fault;
 
 /// A rule of definition files that can be broken.
 #[derive(Clone, Copy, Debug, PartialEq, Eq)]
@@ -15,15 +17,26 @@ pub enum DefCode {
     RefUnknown,
 }
 
-/// A rule that is broken, and the place of the token at which it is, in bytes from 0.
-#[derive(Clone, Copy, Debug, PartialEq, Eq)]
-pub struct DefFault {
-    pub place: u32,
-    pub code: DefCode,
-}
+/// Why a definition file is refused: the place of the token at which a rule is broken, in bytes
+/// from 0, and the number of the rule, from which `DefCode::of_number` gives the rule itself.
+pub type DefRefusal = Fault;
 
 impl DefCode {
+    ghost use Rattle.dialect_registry.specs.declared.code.DefCode.{DefCode};
     ghost use Rattle.dialect_registry.specs.Codes.{code_number, code_name};
+
+    /// The rule of a number, where a rule has it.
+    pub fn of_number(number: u32) -> Option<DefCode>
+        ensures { (code : DefCode) → ((result ≡ Some code) ↔ (code_number code ≡ number)) }
+    {
+        match number {
+            1 => Some(DefCode::Syntax),
+            2 => Some(DefCode::Nesting),
+            3 => Some(DefCode::NameRepeated),
+            4 => Some(DefCode::RefUnknown),
+            _ => None,
+        }
+    }
 
     /// The number of the rule.
     pub fn number(self) -> u32

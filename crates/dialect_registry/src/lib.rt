@@ -4,13 +4,12 @@
 #![tactic(auto)]
 
 mod code;
-mod first;
-mod judge;
+mod name_faults;
 mod names;
 mod scope;
 
-pub use code::{DefCode, DefFault};
-pub use judge::judge_names;
+pub use code::{DefCode, DefRefusal};
+pub use name_faults::judge_names;
 
 #[cfg(test)]
 mod tests;

@@ -2,9 +2,9 @@
 
 ghost use Rattle.std.specs.Prelude.{◌≡◌, ◌++◌, ◌∷◌, [], List, ℕ, OnOk, IfOk};
 
-use crate::code::{DefCode, DefFault};
-use crate::first::earlier;
+use crate::code::{DefCode, DefRefusal};
 use crate::names::NameSet;
+use first_fault::earlier;
 use std::alloc::{AllocError, Global};
 
 /// The names that are defined and those of entries so far, and the first fault of what was seen.
@@ -12,14 +12,14 @@ use std::alloc::{AllocError, Global};
 pub struct Scope<'a> {
     pub defined: NameSet<'a>,
     pub labelled: NameSet<'a>,
-    pub first: Option<DefFault>,
+    pub first: Option<DefRefusal>,
 }
 
 impl<'a> Scope<'a> {
     ghost use Rattle.dialect_registry.specs.NameFaults.{NameMark};
-    ghost use Rattle.dialect_registry.specs.First.{noted};
+    ghost use Rattle.dialect_registry.specs.Codes.{refusal};
     ghost use Rattle.dialect_registry.specs.NameFaults as mark;
-    ghost use Rattle.dialect_registry.specs.Scopes.{Knows};
+    ghost use Rattle.dialect_registry.specs.Scopes.{Knows, noted};
 
     /// Nothing was seen. It takes no memory.
     pub fn new(alloc: Global) -> Scope<'a>
@@ -64,11 +64,12 @@ impl<'a> Scope<'a> {
     /// Keeps a fault where a rule is broken, if it is the first.
     fn note_if(&mut self, broken: bool, place: u32, code: DefCode)
         ensures { self.new ≡ record self.old {
-          first = noted broken self.old.first (record { place = place; code = code });
+          first = noted broken self.old.first (refusal place code);
         } }
     {
         if broken {
-            self.first = earlier(self.first, Some(DefFault { place, code }));
+            let code = code.number();
+            self.first = earlier(self.first, Some(DefRefusal { place, code }));
         }
     }
 }

@@ -162,7 +162,7 @@ fn first_faults_are(rt: &impl Abort, alloc: Global, rows: &[Row]) -> Result<(), 
         assert!(rt; text.len() <= TEXT_LIMIT);
         let defs = read_definitions(alloc, &mut SliceTokens::new(text.as_bytes()))?;
         let first = judge_names(alloc, &defs)?;
-        let got = first.map(|fault| (fault.place, fault.code.number()));
+        let got = first.map(|fault| (fault.place, fault.code));
         assert_eq!(rt; got, *want, "{text}");
     }
     Ok(())
@@ -187,5 +187,8 @@ fn each_rule_has_a_number_and_a_name(rt: HostRuntime) {
         (DefCode::RefUnknown, 4, "RefUnknown"),
     ] {
         assert_eq!(rt; (code.number(), code.name()), (number, name), "{code:?}");
+        assert_eq!(rt; DefCode::of_number(number), Some(code), "{number}");
     }
+    assert_eq!(rt; DefCode::of_number(0), None);
+    assert_eq!(rt; DefCode::of_number(5), None);
 }

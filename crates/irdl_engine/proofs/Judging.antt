@@ -30,8 +30,10 @@ use Rattle.irdl_ops.specs.declared.raw.RawDefs.{RawDefs}
 use Rattle.irdl_ops.specs.Definitions.{DefText, TooDeepDef}
 use Rattle.irdl_ops.proofs.Files.{file-ends, front-file}
 use Rattle.dialect_registry.specs.declared.code.DefCode.{DefCode}
-use Rattle.dialect_registry.specs.declared.code.DefFault.{DefFault}
-use Rattle.dialect_registry.specs.NameFaults.{IsFault, IsFirst}
+use Rattle.dialect_registry.specs.Codes.{code_number, refusal}
+use Rattle.dialect_registry.specs.NameFaults.{IsFault}
+use Rattle.first_fault.specs.declared.fault.Fault.{Fault}
+use Rattle.first_fault.specs.Firsts.{IsFirst}
 use Rattle.irdl_engine.specs.declared.outcome.FileOutcome.TheVariants.{Accepted, Unreadable, TooLong}
 use Rattle.irdl_engine.specs.declared.outcome.FileOutcome.TheVariants.{Refused as RefusedFor}
 use Rattle.irdl_engine.specs.declared.outcome.Refusal.{Refusal}
@@ -88,21 +90,21 @@ judged-as src d (Ok verdict) h spells = h spells
 judged-as src d (Err e) h spells = tt
 
 -- a text whose names have no fault is a definition file
-pub names-pass : (src : Text) (d : RawDefs) (found : Option DefFault)
+pub names-pass : (src : Text) (d : RawDefs) (found : Option Fault)
     → IsFirst (IsFault d) found → found ≡ None → SpellsFile src d → IsVerdict src None
 names-pass src d found first e spells =
     record { defs = d; spells = spells; faultless = subst (IsFirst (IsFault d)) e first }
 
 -- a text whose names have a fault is refused for the first
-pub names-fail : (src : Text) (d : RawDefs) (found : Option DefFault) (f : DefFault) (r : Refusal)
-    → IsFirst (IsFault d) found → found ≡ Some f → StandsAt src r f.place → r.code ≡ f.code
-    → SpellsFile src d → IsVerdict src (Some r)
+pub names-fail : (src : Text) (d : RawDefs) (found : Option Fault) (f : Fault) (r : Refusal)
+    → IsFirst (IsFault d) found → found ≡ Some f → StandsAt src r f.place
+    → code_number r.code ≡ f.code → SpellsFile src d → IsVerdict src (Some r)
 names-fail src d found f r first e stands rule spells =
-    let one : IsFirst (IsFault d) (Some (record { place = f.place; code = r.code })) =
+    let one : IsFirst (IsFault d) (Some (refusal f.place r.code)) =
     rw rule (subst (IsFirst (IsFault d)) e first) in
-    let refusal : IsRefusedAt src f.place r.code =
+    let refused_at : IsRefusedAt src f.place r.code =
     inr (record { defs = d; spells = spells; first = one }) in
-    record { at = f.place; refused = refusal; stands = stands }
+    record { at = f.place; refused = refused_at; stands = stands }
 
 -- ---- the answers
 

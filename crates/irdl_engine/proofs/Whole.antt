@@ -18,8 +18,11 @@ use Rattle.irdl_ops.specs.Definitions.{DefText, TooDeepDef}
 use Rattle.irdl_ops.specs.declared.raw.RawDefs.{RawDefs}
 use Rattle.irdl_ops.proofs.Files.{file-not-refused, one-file, refused-once}
 use Rattle.dialect_registry.specs.declared.code.DefCode.{DefCode}
-use Rattle.dialect_registry.specs.NameFaults.{IsFault, IsFirst}
-use Rattle.dialect_registry.proofs.Once.{first-once}
+use Rattle.dialect_registry.specs.Codes.{refusal}
+use Rattle.dialect_registry.specs.NameFaults.{IsFault}
+use Rattle.dialect_registry.proofs.Codes.{code_number-same}
+use Rattle.first_fault.specs.Firsts.{IsFirst}
+use Rattle.first_fault.proofs.Firsts.{first-once}
 use Rattle.irdl_engine.specs.declared.status.Status.{Status}
 use Rattle.irdl_engine.specs.declared.status.Status.TheVariants.{Done, OutOfMemory}
 use Rattle.irdl_engine.specs.Answer.{Answer, Accepted, Judged, Checked, Obeys, MayAnswer}
@@ -54,8 +57,8 @@ not-both : (src : Text) (place : ℕ) (code : DefCode)
 not-both src place code d (inl r) = spelled-or-refused src d.defs place code d.spells r
 not-both src place code d (inr r) =
     let same : r.defs ≡ d.defs = spelled-once src r.defs d.defs r.spells d.spells in
-    let fault = subst (λ w. IsFault w (record { place = place; code = code })) same r.first.0 in
-    d.faultless (record { place = place; code = code }) fault
+    let fault = subst (λ w. IsFault w (refusal place code)) same r.first.0 in
+    d.faultless (refusal place code) fault
 
 -- two refusals of syntax are at one place, by one rule
 one-syntax : (src : Text) (p q : ℕ) (c e : DefCode)
@@ -73,9 +76,11 @@ one-fault : (src : Text) (p q : ℕ) (c e : DefCode)
     → IsNameRefusal src p c → IsNameRefusal src q e → (p ≡ q) × (c ≡ e)
 one-fault src p q c e x y =
     let same : x.defs ≡ y.defs = spelled-once src x.defs y.defs x.spells y.spells in
-    let first = subst (λ w. IsFirst (IsFault w) (Some (record { place = p; code = c })))
+    let first = subst (λ w. IsFirst (IsFault w) (Some (refusal p c)))
     same x.first in
-    first-once (IsFault y.defs) p q c e first y.first
+    let same_fault =
+    first-once (IsFault y.defs) (refusal p c) (refusal q e) first y.first in
+    (same_fault.0, code_number-same c e same_fault.1)
 
 one-place : (src : Text) (p q : ℕ) (c e : DefCode)
     → IsRefusedAt src p c → IsRefusedAt src q e → (p ≡ q) × (c ≡ e)

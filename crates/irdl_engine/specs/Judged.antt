@@ -17,7 +17,9 @@ use Rattle.irdl_ops.specs.declared.raw.RawDefs.{RawDefs}
 use Rattle.irdl_ops.specs.Definitions.{DefText, TooDeepDef, IsFile}
 use Rattle.dialect_registry.specs.declared.code.DefCode.{DefCode}
 use Rattle.dialect_registry.specs.declared.code.DefCode.TheVariants as code
-use Rattle.dialect_registry.specs.NameFaults.{IsFault, IsFirst}
+use Rattle.dialect_registry.specs.Codes.{refusal}
+use Rattle.dialect_registry.specs.NameFaults.{IsFault}
+use Rattle.first_fault.specs.Firsts.{IsFirst}
 
 -- the rule that a refused token breaks: a value nested too deep is a rule of its own
 abbrev pub rule_of : SyntaxCode → DefCode
@@ -50,7 +52,7 @@ pub record IsSyntaxRefusal (src : Text) (place : ℕ) (code : DefCode) : Type 0 
 pub record IsNameRefusal (src : Text) (place : ℕ) (code : DefCode) : Type 0 where
   pub defs : RawDefs
   pub spells : SpellsFile src defs
-  pub first : IsFirst (IsFault defs) (Some (record { place = place; code = code }))
+  pub first : IsFirst (IsFault defs) (Some (refusal place code))
 
 abbrev pub IsRefusedAt : Text → ℕ → DefCode → Type 0
 IsRefusedAt src place code = IsSyntaxRefusal src place code ⊎ IsNameRefusal src place code

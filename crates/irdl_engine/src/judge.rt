@@ -52,7 +52,10 @@ fn judge_file_names(
 {
     match judge_names(alloc, defs)? {
         None => Ok(None),
-        Some(fault) => Ok(Some(refusal_at(src, fault.place, fault.code))),
+        Some(refusal) => match DefCode::of_number(refusal.code) {
+            Some(code) => Ok(Some(refusal_at(src, refusal.place, code))),
+            None => unreachable!(),
+        },
     }
 }
 

@@ -1,6 +1,6 @@
 use Rattle.dialect_registry.specs.NameFaults.{defines}
 use Rattle.dialect_registry.proofs.Walks.{walk-map}
-use Rattle.dialect_registry.proofs.judge.judge_definitions.Goals as goal
+use Rattle.dialect_registry.proofs.name_faults.judge_definitions.Goals as goal
 
 pub loop-def-preserved : goal.loop-def-preserved
 loop-def-preserved c =

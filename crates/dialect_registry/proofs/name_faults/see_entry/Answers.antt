@@ -1,7 +1,7 @@
 use Rattle.std.proofs.Common.{[], ◌∷◌, ◌++◌, subst, append_assoc}
 use Rattle.dialect_registry.specs.NameFaults.{uses, label_of}
 use Rattle.dialect_registry.specs.Scopes.{Knows}
-use Rattle.dialect_registry.proofs.judge.see_entry.Goals as goal
+use Rattle.dialect_registry.proofs.name_faults.see_entry.Goals as goal
 
 pub returns : goal.returns
 returns c = λ ms k.

@@ -1,5 +1,5 @@
-use Rattle.dialect_registry.proofs.Firsts.{first-either}
-use Rattle.dialect_registry.proofs.judge.judge_dialect.Goals as goal
+use Rattle.first_fault.proofs.Firsts.{first-either}
+use Rattle.dialect_registry.proofs.name_faults.judge_dialect.Goals as goal
 
 pub returns : goal.returns
 returns c = rw c.earlier.ensures

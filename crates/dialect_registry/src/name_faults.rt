@@ -1,23 +1,26 @@
 //! The judgement of names in a definition file.
 
-ghost use Rattle.std.specs.Prelude.{◌≡◌, ◌++◌, List, IfOk, OnOk};
+ghost use Rattle.std.specs.Prelude.{◌≡◌, ◌++◌, List, IfOk, OnOk, IfSome};
 ghost use Rattle.std.specs.List.{flat_map};
+ghost use Rattle.dialect_registry.specs.Codes.{IsRule};
 ghost use Rattle.dialect_registry.specs.NameFaults as spec;
-ghost use Rattle.dialect_registry.specs.NameFaults.{NameMark, Among, IsFirst, IsFaultIn};
+ghost use Rattle.dialect_registry.specs.NameFaults.{NameMark, Among, IsFaultIn};
 ghost use Rattle.dialect_registry.specs.NameFaults.{IsFault, IsDialectFault, IsBodyFault};
+ghost use Rattle.first_fault.specs.Firsts.{IsFirst};
 ghost use Rattle.dialect_registry.specs.Scopes.{Knows};
 
-use crate::code::DefFault;
-use crate::first::earlier;
+use crate::code::DefRefusal;
 use crate::scope::Scope;
+use first_fault::earlier;
 use generic_syntax::NameCst;
 use irdl_ops::{RawDef, RawDefs, RawDialect, RawEntry, RawStatement, StatementKind};
 use std::alloc::{AllocError, Global};
 
-/// The first fault of names and references in a definition file, by place and then by code, or none
-/// where the file has none. It takes time linear in the file.
-pub fn judge_names(alloc: Global, defs: &RawDefs) -> Result<Option<DefFault>, AllocError>
-    ensures { IfOk result (λ first. IsFirst (IsFault defs.now) first) }
+/// The first fault of names and references in a definition file, by place and then by the rule's
+/// number, or none where the file has none. It takes time linear in the file.
+pub fn judge_names(alloc: Global, defs: &RawDefs) -> Result<Option<DefRefusal>, AllocError>
+    ensures first { IfOk result (λ first. IsFirst (IsFault defs.now) first) }
+    ensures rule { IfOk result (λ first. IfSome first (λ refusal. IsRule refusal.code)) }
 {
     let mut first = None;
     for dialect in defs.dialects.as_slice() {
@@ -26,7 +29,7 @@ pub fn judge_names(alloc: Global, defs: &RawDefs) -> Result<Option<DefFault>, Al
     Ok(first)
 }
 
-fn judge_dialect(alloc: Global, dialect: &RawDialect) -> Result<Option<DefFault>, AllocError>
+fn judge_dialect(alloc: Global, dialect: &RawDialect) -> Result<Option<DefRefusal>, AllocError>
     ensures { IfOk result (λ first. IsFirst (IsDialectFault dialect.now) first) }
 {
     let names = judge_definitions(alloc, dialect)?;
@@ -35,7 +38,7 @@ fn judge_dialect(alloc: Global, dialect: &RawDialect) -> Result<Option<DefFault>
 }
 
 /// The first of a dialect's definitions whose name stands earlier.
-fn judge_definitions(alloc: Global, dialect: &RawDialect) -> Result<Option<DefFault>, AllocError>
+fn judge_definitions(alloc: Global, dialect: &RawDialect) -> Result<Option<DefRefusal>, AllocError>
     ensures { IfOk result (λ first. IsFirst (IsFaultIn (spec.marks_of_dialect dialect.now)) first) }
 {
     let mut scope = Scope::new(alloc);
@@ -46,7 +49,7 @@ fn judge_definitions(alloc: Global, dialect: &RawDialect) -> Result<Option<DefFa
 }
 
 /// The first fault of a dialect's bodies.
-fn judge_bodies(alloc: Global, dialect: &RawDialect) -> Result<Option<DefFault>, AllocError>
+fn judge_bodies(alloc: Global, dialect: &RawDialect) -> Result<Option<DefRefusal>, AllocError>
     ensures { IfOk result (λ first. IsFirst (Among IsBodyFault dialect.now.defs) first) }
 {
     let mut first = None;
@@ -57,7 +60,7 @@ fn judge_bodies(alloc: Global, dialect: &RawDialect) -> Result<Option<DefFault>,
 }
 
 /// The first fault of a body.
-fn judge_body(alloc: Global, def: &RawDef) -> Result<Option<DefFault>, AllocError>
+fn judge_body(alloc: Global, def: &RawDef) -> Result<Option<DefRefusal>, AllocError>
     ensures { IfOk result (λ first. IsFirst (IsBodyFault def.now) first) }
 {
     let mut scope = Scope::new(alloc);

@@ -1,6 +1,6 @@
 use Rattle.dialect_registry.specs.NameFaults.{marks_of_entry}
 use Rattle.dialect_registry.proofs.Walks.{walk-more, walk-end}
-use Rattle.dialect_registry.proofs.judge.see_entries.Goals as goal
+use Rattle.dialect_registry.proofs.name_faults.see_entries.Goals as goal
 
 pub loop-entry-preserved : goal.loop-entry-preserved
 loop-entry-preserved c = λ ms k.

@@ -1,6 +1,6 @@
 use Rattle.dialect_registry.specs.NameFaults.{IsBodyFault}
 use Rattle.dialect_registry.proofs.Walks.{among-more, among-all}
-use Rattle.dialect_registry.proofs.judge.judge_bodies.Goals as goal
+use Rattle.dialect_registry.proofs.name_faults.judge_bodies.Goals as goal
 
 pub loop-def-preserved : goal.loop-def-preserved
 loop-def-preserved c =

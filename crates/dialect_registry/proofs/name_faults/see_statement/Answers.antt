@@ -1,4 +1,4 @@
-use Rattle.dialect_registry.proofs.judge.see_statement.Goals as goal
+use Rattle.dialect_registry.proofs.name_faults.see_statement.Goals as goal
 
 pub returns-in-Constraint : goal.returns-in-Constraint
 returns-in-Constraint c = rw c.in-Constraint.is (rw c.bytes.ensures at c.define.ensures)

@@ -1,7 +1,7 @@
 use Rattle.std.proofs.Common.{[]}
 use Rattle.dialect_registry.specs.NameFaults.{marks_of_kind}
 use Rattle.dialect_registry.proofs.Walks.{walk-more}
-use Rattle.dialect_registry.proofs.judge.judge_body.Goals as goal
+use Rattle.dialect_registry.proofs.name_faults.judge_body.Goals as goal
 
 pub loop-statement-preserved : goal.loop-statement-preserved
 loop-statement-preserved c =

@@ -1,7 +1,7 @@
 use Rattle.std.proofs.Common.{map, take}
 use Rattle.dialect_registry.specs.NameFaults.{defines}
 use Rattle.dialect_registry.specs.Scopes.{Knows}
-use Rattle.dialect_registry.proofs.judge.judge_definitions.Given as goal
+use Rattle.dialect_registry.proofs.name_faults.judge_definitions.Given as goal
 
 abbrev pub invariant-loop-def : goal.invariant-loop-def
 invariant-loop-def l =
