@@ -12,19 +12,19 @@ ghost use Rattle.constraint_solver.specs.Search.{Forced, Refuted};
 
 use attr_uniquer::Uniquer;
 use attr_value::ValueId;
-use dialect_defs::{Entry, VarId};
+use dialect_defs::{Entry, VARIABLE_LIMIT, VarId};
 
 /// The ids of the values that variables have so far.
 #[derive(Clone, Copy, Drop)]
 pub struct Slots {
-    pub ids: [Option<ValueId>; 64],
+    pub ids: [Option<ValueId>; VARIABLE_LIMIT],
 }
 
 /// No variable has a value.
 pub fn empty_slots() -> Slots
     ensures { (v : ℕ) → slice_index_or result.ids v None ≡ None }
 {
-    Slots { ids: [None; 64] }
+    Slots { ids: [None; VARIABLE_LIMIT] }
 }
 
 /// Gives a variable below `n` a value, unless it has another.
@@ -32,7 +32,7 @@ pub fn assign(u: &Uniquer, n: usize, slots: &mut Slots, var: VarId, id: ValueId)
     requires slots { AreKnownIds (length u.now) slots.old.ids }
     requires id { id.0 < length u.now }
     requires below { var.0 < n }
-    requires within { n ≤ 64 }
+    requires within { n ≤ VARIABLE_LIMIT }
     ensures forced { IsTrue result → Forced n (assigned u.now slots.old.ids)
         (assigned u.now slots.new.ids) (λ a. Has a var (at u.now id.0)) }
     ensures known { IsTrue result → AreKnownIds (length u.now) slots.new.ids }
@@ -53,7 +53,7 @@ pub fn assign_all(u: &Uniquer, n: usize, slots: &mut Slots, vars: &[VarId], id: 
     requires slots { AreKnownIds (length u.now) slots.old.ids }
     requires id { id.0 < length u.now }
     requires below { AreBelow n vars.now }
-    requires within { n ≤ 64 }
+    requires within { n ≤ VARIABLE_LIMIT }
     ensures forced { IsTrue result → Forced n (assigned u.now slots.old.ids)
         (assigned u.now slots.new.ids)
         (λ a. AllByRecursion (λ v. Has a v (at u.now id.0)) vars.now) }
@@ -81,7 +81,7 @@ pub fn assign_each(
     requires kids { AreKnown (length u.now) kids.now }
     requires lengths { length vars.now ≡ length kids.now }
     requires below { AreBelow n vars.now }
-    requires within { n ≤ 64 }
+    requires within { n ≤ VARIABLE_LIMIT }
     ensures forced { IsTrue result → Forced n (assigned u.now slots.old.ids)
         (assigned u.now slots.new.ids)
         (λ a. HaveEach a vars.now (list_of (kids_at u.now kids.now))) }
@@ -109,7 +109,7 @@ pub fn assign_params(
     requires kids { AreKnown (length u.now) kids.now }
     requires lengths { length params.now ≡ length kids.now }
     requires below { AreBelow n (vars_of params.now) }
-    requires within { n ≤ 64 }
+    requires within { n ≤ VARIABLE_LIMIT }
     ensures forced { IsTrue result → Forced n (assigned u.now slots.old.ids)
         (assigned u.now slots.new.ids)
         (λ a. HaveEach a (vars_of params.now) (list_of (kids_at u.now kids.now))) }
@@ -130,7 +130,7 @@ pub fn assign_roots(u: &Uniquer, n: usize, slots: &mut Slots, roots: &[(VarId, V
     requires slots { AreKnownIds (length u.now) slots.old.ids }
     requires vars { AllByRecursion (λ root. root.0.0 < n) roots.now }
     requires ids { AllByRecursion (λ root. root.1.0 < length u.now) roots.now }
-    requires within { n ≤ 64 }
+    requires within { n ≤ VARIABLE_LIMIT }
     ensures forced { IsTrue result → Forced n (assigned u.now slots.old.ids)
         (assigned u.now slots.new.ids) (HasRoots u.now roots.now) }
     ensures known { IsTrue result → AreKnownIds (length u.now) slots.new.ids }

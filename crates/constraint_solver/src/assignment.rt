@@ -4,14 +4,14 @@ ghost use Rattle.std.specs.Prelude.{◌≡◌, ◌≤◌, [], None, length, take
 
 use arrayvec::ArrayVec;
 use attr_value::ValueId;
-use dialect_defs::VarId;
+use dialect_defs::{VARIABLE_LIMIT, VarId};
 use std::marker::Model;
 
 /// The ids of the values of a body's variables. Contracts see the list of these, one for each
 /// variable, which is `None` where a variable has no value.
 #[derive(Drop)]
 pub struct Assignment {
-    ids: ArrayVec<Option<ValueId>, 64>,
+    ids: ArrayVec<Option<ValueId>, VARIABLE_LIMIT>,
 }
 
 impl Model for Assignment {
@@ -30,8 +30,8 @@ impl Model for Assignment {
 
 impl Assignment {
     /// The assignment of the first `n` of these ids.
-    pub(crate) fn of_first(ids: &[Option<ValueId>; 64], n: usize) -> Assignment
-        requires { n ≤ 64 }
+    pub(crate) fn of_first(ids: &[Option<ValueId>; VARIABLE_LIMIT], n: usize) -> Assignment
+        requires { n ≤ VARIABLE_LIMIT }
         ensures ids { result ≡ take n ids.now }
         ensures len { length result ≡ n }
     {

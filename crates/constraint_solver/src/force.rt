@@ -13,7 +13,7 @@ ghost use Rattle.constraint_solver.specs.Search.{Forced, Refuted, IsDirect};
 use crate::assign::{Slots, assign_all, assign_each};
 use attr_uniquer::Uniquer;
 use attr_value::{Head, Text, ValueId, is_base};
-use dialect_defs::{BaseRef, Constraint, VarId};
+use dialect_defs::{BaseRef, Constraint, VARIABLE_LIMIT, VarId};
 use native_predicate::Natives;
 
 /// Whether a head is that of the dialect's type or attribute of this name.
@@ -55,7 +55,7 @@ fn force_parts(
     requires below { AreBelow n parts.now }
     requires slots { AreKnownIds (length u.now) slots.old.ids }
     requires id { id.0 < length u.now }
-    requires within { n ≤ 64 }
+    requires within { n ≤ VARIABLE_LIMIT }
     ensures forced { IsTrue result → Forced n (assigned u.now slots.old.ids)
         (assigned u.now slots.new.ids) (λ a. Keeps u.now (tests property natives.now) a
         (Parametric is_type name.now parts.now) (at u.now id.0)) }
@@ -88,7 +88,7 @@ pub fn force(
     requires sound { IsSoundAt (length u.now) (count natives.now) n constraint.now }
     requires slots { AreKnownIds (length u.now) slots.old.ids }
     requires id { id.0 < length u.now }
-    requires within { n ≤ 64 }
+    requires within { n ≤ VARIABLE_LIMIT }
     ensures forced { IsTrue result → Forced n (assigned u.now slots.old.ids)
         (assigned u.now slots.new.ids)
         (λ a. Keeps u.now (tests property natives.now) a constraint.now (at u.now id.0)) }

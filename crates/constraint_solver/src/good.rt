@@ -15,6 +15,9 @@ use attr_value::{Head, Text, ValueId};
 use dialect_defs::TypeDef;
 use native_predicate::Natives;
 
+/// How deep a value may nest. A value without kids has depth 1.
+const DEPTH_LIMIT: usize = 64;
+
 /// Whether some assignment of a definition gives its parameters these kids.
 fn is_instance_of(d: &TypeDef, natives: &Natives, u: &Uniquer, kids: &[ValueId]) -> bool
     requires def { IsSoundDef (length u.now) (count natives.now) d.now }
@@ -86,7 +89,8 @@ fn is_defined(
     }
 }
 
-/// Whether a value whose kids are good is good with these definitions: it nests at most 64 deep,
+/// Whether a value whose kids are good is good with these definitions: it nests no deeper than
+/// the limit,
 /// keeps to its head's rule, and is an instance of some definition of its kind and name where it is
 /// a dialect's. It takes no memory.
 pub fn good_head(types: &[TypeDef], natives: &Natives, u: &Uniquer, id: ValueId) -> bool
@@ -95,7 +99,7 @@ pub fn good_head(types: &[TypeDef], natives: &Natives, u: &Uniquer, id: ValueId)
     requires kids { HasGoodKids u.now (tests property natives.now) types.now (at u.now id.0) }
     ensures { IsTrue result ↔ Good u.now (tests property natives.now) types.now (at u.now id.0) }
 {
-    if u.depth(id) > 64 {
+    if u.depth(id) > DEPTH_LIMIT {
         return false;
     }
     let (head, kids) = u.view(id);

@@ -13,7 +13,7 @@ use crate::assignment::Assignment;
 use crate::force::force;
 use attr_uniquer::Uniquer;
 use attr_value::ValueId;
-use dialect_defs::{Body, Constraint, VarId};
+use dialect_defs::{Body, Constraint, VARIABLE_LIMIT, VarId};
 use native_predicate::Natives;
 
 /// The constraint of a variable.
@@ -36,7 +36,7 @@ pub fn solve_below(u: &Uniquer, natives: &Natives, body: &Body, n: usize, slots:
     ensures solved { IsTrue result → Solved n u.now (tests property natives.now) body.now
         (assigned u.now slots.old.ids) (assigned u.now slots.new.ids) }
     ensures known { IsTrue result → AreKnownIds (length u.now) slots.new.ids }
-    ensures len { IsTrue result → length slots.new.ids ≡ 64 }
+    ensures len { IsTrue result → length slots.new.ids ≡ VARIABLE_LIMIT }
     ensures refuted { result ≡ false → Refuted (assigned u.now slots.old.ids)
         (MeetsBelow n u.now (tests property natives.now) body.now) }
 {

@@ -7,7 +7,7 @@ ghost use Rattle.constraint_solver.specs.Definitions.{IsSoundDef, AreSoundDefs};
 ghost use Rattle.constraint_solver.specs.Roots.{AreRoots};
 
 use attr_value::ValueId;
-use dialect_defs::{Body, Constraint, Entry, TypeDef, VarId};
+use dialect_defs::{Body, Constraint, Entry, TypeDef, VARIABLE_LIMIT, VarId};
 
 /// Whether each variable has a number below `n`.
 fn are_below(n: usize, vars: &[VarId]) -> bool
@@ -37,13 +37,13 @@ fn is_sound_at(len: usize, count: usize, v: usize, constraint: &Constraint) -> b
 }
 
 /// Whether `solve` takes a body, over a table of `len` values and with `count` predicates: it has
-/// at most 64 variables, each of them names earlier ones alone, and the values and predicates that
-/// it names are there. It takes no memory.
+/// at most [`VARIABLE_LIMIT`] variables, each of them names earlier ones alone, and the values and
+/// predicates that it names are there. It takes no memory.
 pub fn is_sound_body(body: &Body, len: usize, count: usize) -> bool
     ensures { IsTrue result ↔ IsSoundBody len count body.now }
 {
     let vars = body.vars.as_slice();
-    if vars.len() > 64 {
+    if vars.len() > VARIABLE_LIMIT {
         return false;
     }
     for (v, constraint) in vars.iter().enumerate() {

@@ -2,11 +2,12 @@
 --
 --   AreBelow n vs                 each variable has a number below n
 --   IsSoundAt len count v c       c may be the constraint of the variable v
---   IsSoundBody len count body    the body is of at most 64 variables, each of which names earlier
---                                 ones alone; len values and count predicates are there
+--   IsSoundBody len count body    the body has few variables, each of which names earlier ones
+--                                 alone; len values and count predicates are there
 use Rattle.std.specs.Prelude.{◌≡◌, ℕ, ◌<◌, ◌≤◌, List, length, slice_get}
 use Rattle.std.specs.List.{AllByRecursion}
 use Rattle.std.specs.declared.option.Option.TheVariants.{Some}
+use Rattle.dialect_defs.specs.declared.body.TheConstants.{VARIABLE_LIMIT}
 use Rattle.dialect_defs.specs.declared.body.Body.{Body}
 use Rattle.dialect_defs.specs.declared.body.Constraint.{Constraint}
 use Rattle.dialect_defs.specs.declared.body.Constraint.TheVariants.{Is, Any, Base, Parametric}
@@ -28,11 +29,9 @@ IsSoundAt len count v (AnyOf members) = AreBelow v members
 IsSoundAt len count v (AllOf members) = AreBelow v members
 IsSoundAt len count v (Native i) = i < count
 
--- the most variables that a body may have
-abbrev pub var_limit : ℕ
-var_limit = 64
-
+-- A body of no more variables than the limit, each with a constraint that may be its own, where a
+-- table of len values and count predicates are there.
 pub record IsSoundBody (len count : ℕ) (body : Body) : Type 0 where
-  pub few : length body.vars ≤ var_limit
+  pub few : length body.vars ≤ VARIABLE_LIMIT
   pub each : (v : ℕ) (c : Constraint) → slice_get body.vars v ≡ Some c
       → IsSoundAt len count v c

@@ -2,6 +2,9 @@
 
 use attr_value::{BaseKind, List, Text, ValueId};
 
+/// The most variables that a body may have.
+pub const VARIABLE_LIMIT: usize = 64;
+
 /// A variable of a body, by its place there from 0.
 #[derive(Clone, Copy, Debug, PartialEq, Eq, Drop)]
 pub struct VarId(pub usize);

@@ -3,6 +3,9 @@
 use crate::body::VarId;
 use attr_value::{List, Text};
 
+/// The most entries that the operands or the results of an operation may have.
+pub const ENTRY_LIMIT: usize = 32;
+
 /// How many values an entry stands for.
 #[derive(Clone, Copy, Debug, PartialEq, Eq)]
 pub enum Arity {

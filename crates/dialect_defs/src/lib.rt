@@ -10,6 +10,6 @@ mod body;
 mod definition;
 mod entry;
 
-pub use body::{BaseRef, Body, Constraint, VarId};
+pub use body::{BaseRef, Body, Constraint, VARIABLE_LIMIT, VarId};
 pub use definition::{OpDef, TypeDef};
-pub use entry::{Arity, AttrEntry, Entry, RegionEntry};
+pub use entry::{Arity, AttrEntry, ENTRY_LIMIT, Entry, RegionEntry};

@@ -7,14 +7,11 @@
 use Rattle.std.specs.Prelude.{ℕ, ◌<◌, ◌≤◌, List, length, IfSome}
 use Rattle.std.specs.List.{AllByRecursion}
 use Rattle.dialect_defs.specs.declared.definition.OpDef.{OpDef}
+use Rattle.dialect_defs.specs.declared.entry.TheConstants.{ENTRY_LIMIT}
 use Rattle.dialect_defs.specs.declared.entry.AttrEntry.{AttrEntry}
 use Rattle.dialect_defs.specs.declared.entry.Entry.{Entry}
 use Rattle.dialect_defs.specs.declared.entry.RegionEntry.{RegionEntry}
 use Rattle.dialect_defs.specs.Bodies.{IsSoundBody, AreBelow}
-
--- the most entries that operands or results may have
-abbrev pub entry_limit : ℕ
-entry_limit = 32
 
 -- each entry names one of the first n variables
 abbrev pub EntriesAreBelow : ℕ → List Entry → Type 0
@@ -26,15 +23,15 @@ AttrsAreBelow n entries = AllByRecursion (λ entry. entry.var.0 < n) entries
 abbrev pub RegionsAreBelow : ℕ → List RegionEntry → Type 0
 RegionsAreBelow n entries = AllByRecursion (λ entry. IfSome entry.args (AreBelow n)) entries
 
--- each variable that the definition names is one of the first n, and it has no more than 32 entries
--- of operands and of results
+-- each variable that the definition names is one of the first n, and neither its operands nor its
+-- results have more entries than the limit
 pub record NamesAreBelow (n : ℕ) (d : OpDef) : Type 0 where
   pub operands : EntriesAreBelow n d.operands
   pub results : EntriesAreBelow n d.results
   pub attrs : AttrsAreBelow n d.attrs
   pub regions : RegionsAreBelow n d.regions
-  pub few_operands : length d.operands ≤ entry_limit
-  pub few_results : length d.results ≤ entry_limit
+  pub few_operands : length d.operands ≤ ENTRY_LIMIT
+  pub few_results : length d.results ≤ ENTRY_LIMIT
 
 -- its body is sound, and each variable that it names is one of the body
 pub record IsSoundOp (len count : ℕ) (d : OpDef) : Type 0 where

@@ -19,7 +19,7 @@ use crate::attrs::attribute;
 use crate::operands::Types;
 use crate::wanted::Wanted;
 use attr_uniquer::Uniquer;
-use dialect_defs::{AttrEntry, Entry, VarId};
+use dialect_defs::{AttrEntry, ENTRY_LIMIT, Entry, VarId};
 use ir_store::OpRow;
 use segment_match::sizes;
 
@@ -88,7 +88,7 @@ impl Wanted {
     ) -> bool
         requires slots { AreKnownSlots (length u.now) self.old.slots.items }
         requires vars { EntriesAreBelow (length self.old.slots.items) entries.now }
-        requires few { length entries.now ≤ 32 }
+        requires few { length entries.now ≤ ENTRY_LIMIT }
         requires known { AreKnown (length u.now) (ids_of types.now) }
         ensures asks { IsTrue result → Asks u.now self.old.slots.items self.new.slots.items
             (λ a. HasSegments a entries.now (values_at u.now (ids_of types.now))

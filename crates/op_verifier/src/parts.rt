@@ -18,7 +18,7 @@ use crate::attrs::sizes_given;
 use crate::operands::Types;
 use crate::wanted::Wanted;
 use attr_uniquer::Uniquer;
-use dialect_defs::{Entry, OpDef};
+use dialect_defs::{ENTRY_LIMIT, Entry, OpDef};
 use ir_store::{OpId, OpRow, Store};
 
 impl Wanted {
@@ -26,7 +26,7 @@ impl Wanted {
     fn ask_operands(&mut self, u: &Uniquer, entries: &[Entry], row: &OpRow, types: &Types) -> bool
         requires slots { AreKnownSlots (length u.now) self.old.slots.items }
         requires vars { EntriesAreBelow (length self.old.slots.items) entries.now }
-        requires few { length entries.now ≤ 32 }
+        requires few { length entries.now ≤ ENTRY_LIMIT }
         requires attrs { AttrsAreRight (head_of row.now) }
         requires known { AreKnown (length u.now) row.now.values }
         requires types { AreKnown (length u.now) (ids_of types.now) }
@@ -47,7 +47,7 @@ impl Wanted {
     fn ask_results(&mut self, u: &Uniquer, entries: &[Entry], row: &OpRow) -> bool
         requires slots { AreKnownSlots (length u.now) self.old.slots.items }
         requires vars { EntriesAreBelow (length self.old.slots.items) entries.now }
-        requires few { length entries.now ≤ 32 }
+        requires few { length entries.now ≤ ENTRY_LIMIT }
         requires attrs { AttrsAreRight (head_of row.now) }
         requires known { AreKnown (length u.now) row.now.values }
         requires types { AreKnown (length u.now) row.now.results.items }

@@ -5,12 +5,12 @@ ghost use Rattle.op_verifier.specs.Parts.{root_of, roots_of};
 
 use crate::wanted::Wanted;
 use attr_value::ValueId;
-use dialect_defs::VarId;
+use dialect_defs::{VARIABLE_LIMIT, VarId};
 
 /// Variables with values, which are the first `count` of the items.
 #[derive(Drop)]
 pub(crate) struct Roots {
-    items: [(VarId, ValueId); 64],
+    items: [(VarId, ValueId); VARIABLE_LIMIT],
     count: usize,
 }
 
@@ -18,22 +18,22 @@ impl Roots {
     /// No variable.
     fn new() -> Roots
         ensures count { result.count ≡ 0 }
-        ensures size { length result.items ≡ 64 }
+        ensures size { length result.items ≡ VARIABLE_LIMIT }
     {
         Roots {
-            items: [(VarId(0), ValueId(0)); 64],
+            items: [(VarId(0), ValueId(0)); VARIABLE_LIMIT],
             count: 0,
         }
     }
 
     /// Puts a variable last, where it has a value.
     fn add(&mut self, var: usize, slot: Option<ValueId>)
-        requires room { self.old.count < 64 }
-        requires size { length self.old.items ≡ 64 }
+        requires room { self.old.count < VARIABLE_LIMIT }
+        requires size { length self.old.items ≡ VARIABLE_LIMIT }
         ensures items { take self.new.count self.new.items
             ≡ take self.old.count self.old.items ++ root_of var slot }
         ensures count { self.new.count ≤ self.old.count + 1 }
-        ensures size { length self.new.items ≡ 64 }
+        ensures size { length self.new.items ≡ VARIABLE_LIMIT }
     {
         if let Some(id) = slot {
             self.items[self.count] = (VarId(var), id);
@@ -53,7 +53,7 @@ impl Roots {
 impl Wanted {
     /// Each variable of which a value is asked, with it.
     pub(crate) fn roots(&self) -> Roots
-        requires { length self.now.slots.items ≤ 64 }
+        requires { length self.now.slots.items ≤ VARIABLE_LIMIT }
         ensures items { take result.count result.items ≡ roots_of 0 self.now.slots.items }
         ensures within { result.count ≤ length result.items }
     {

@@ -15,7 +15,7 @@ ghost use Rattle.op_verifier.specs.Sound.{NamesAreBelow, IsSoundOp, AreSoundOps}
 use crate::operands::type_of;
 use attr_value::ValueId;
 use constraint_solver::is_sound_body;
-use dialect_defs::{AttrEntry, Entry, OpDef, RegionEntry, VarId};
+use dialect_defs::{AttrEntry, ENTRY_LIMIT, Entry, OpDef, RegionEntry, VarId};
 use ir_store::{OpId, Store};
 
 /// Whether each variable has a number below `n`.
@@ -84,8 +84,8 @@ fn are_names_below(n: usize, def: &OpDef) -> bool
         && are_entries_below(n, def.results.as_slice())
         && are_attrs_below(n, def.attrs.as_slice())
         && are_regions_below(n, def.regions.as_slice())
-        && def.operands.as_slice().len() <= 32
-        && def.results.as_slice().len() <= 32
+        && def.operands.as_slice().len() <= ENTRY_LIMIT
+        && def.results.as_slice().len() <= ENTRY_LIMIT
 }
 
 /// Whether an operation may be judged by a definition.
@@ -97,7 +97,7 @@ fn is_sound_op(def: &OpDef, len: usize, count: usize) -> bool
 
 /// Whether operations may be judged by these definitions, over a table of `len` values and with
 /// `count` predicates: their bodies are sound, each variable that they name is one of their body,
-/// and none has more than 32 entries of operands or of results. It takes no memory.
+/// and none has more than [`ENTRY_LIMIT`] entries of operands or of results. It takes no memory.
 pub fn are_sound_ops(defs: &[OpDef], len: usize, count: usize) -> bool
     ensures { IsTrue result ↔ AreSoundOps len count defs.now }
 {

@@ -9,18 +9,18 @@ ghost use Rattle.op_verifier.specs.Asked.{AreKnownSlots, Asks, Refuses};
 use arrayvec::ArrayVec;
 use attr_uniquer::Uniquer;
 use attr_value::ValueId;
-use dialect_defs::VarId;
+use dialect_defs::{VARIABLE_LIMIT, VarId};
 
 /// For each variable of a body the value that is asked of it, if one is.
 #[derive(Drop)]
 pub(crate) struct Wanted {
-    pub(crate) slots: ArrayVec<Option<ValueId>, 64>,
+    pub(crate) slots: ArrayVec<Option<ValueId>, VARIABLE_LIMIT>,
 }
 
 impl Wanted {
     /// Nothing is asked of so many variables.
     pub(crate) fn new(count: usize) -> Wanted
-        requires { count ≤ 64 }
+        requires { count ≤ VARIABLE_LIMIT }
         ensures size { length result.slots.items ≡ count }
         ensures none { AllByRecursion (λ slot. slot ≡ None) result.slots.items }
     {

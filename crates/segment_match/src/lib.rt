@@ -10,7 +10,7 @@ ghost use Rattle.dialect_defs.specs.Segments.{FitEach, Segments, needs_sizes};
 ghost use Rattle.segment_match.specs.Spread.{flexible, spread};
 
 use arrayvec::ArrayVec;
-use dialect_defs::{Arity, Entry};
+use dialect_defs::{Arity, ENTRY_LIMIT, Entry};
 
 /// Whether the sizes fit the entries and are `count` in all.
 fn fits(entries: &[Entry], sizes: &[usize], count: usize) -> bool
@@ -50,8 +50,8 @@ fn count_flexible(entries: &[Entry]) -> usize
 }
 
 /// The sizes where at most one entry isn't single: 1 for a single entry, `rest` for the other.
-fn spread_over(entries: &[Entry], rest: usize) -> ArrayVec<usize, 32>
-    requires { length entries.now ≤ 32 }
+fn spread_over(entries: &[Entry], rest: usize) -> ArrayVec<usize, ENTRY_LIMIT>
+    requires { length entries.now ≤ ENTRY_LIMIT }
     ensures { result.items ≡ spread entries.now rest }
 {
     let mut sizes = ArrayVec::new();
@@ -76,9 +76,9 @@ fn rest_of(entries: &[Entry], count: usize) -> usize
 /// The sizes, where they fit and are `count` in all.
 fn checked(
     entries: &[Entry],
-    sizes: ArrayVec<usize, 32>,
+    sizes: ArrayVec<usize, ENTRY_LIMIT>,
     count: usize,
-) -> Option<ArrayVec<usize, 32>>
+) -> Option<ArrayVec<usize, ENTRY_LIMIT>>
     ensures some { IfSome result (λ v. FitEach entries.now v.items × (sum v.items ≡ count)) }
     ensures same { IfSome result (λ v. v.items ≡ sizes.items) }
     ensures only { FitEach entries.now sizes.items → sum sizes.items ≡ count
@@ -92,8 +92,8 @@ fn checked(
 }
 
 /// Given sizes, where none of them is negative.
-fn read_given(given: &[i64]) -> Option<ArrayVec<usize, 32>>
-    requires { length given.now ≤ 32 }
+fn read_given(given: &[i64]) -> Option<ArrayVec<usize, ENTRY_LIMIT>>
+    requires { length given.now ≤ ENTRY_LIMIT }
     ensures some { IfSome result (λ v. given.now ≡ map pos v.items) }
     ensures only { (s : List ℕ) → given.now ≡ map pos s → IsSomeAnd result (λ v. v.items ≡ s) }
 {
@@ -111,8 +111,8 @@ fn read_given(given: &[i64]) -> Option<ArrayVec<usize, 32>>
 /// The sizes of the segments of `count` values, one for each entry; `None` where there are none.
 /// There is never more than one such list. Where two or more entries aren't single, it is the
 /// given one; else `given` isn't looked at. It takes no memory.
-pub fn sizes(entries: &[Entry], count: usize, given: Option<&[i64]>) -> Option<ArrayVec<usize, 32>>
-    requires { length entries.now ≤ 32 }
+pub fn sizes(entries: &[Entry], count: usize, given: Option<&[i64]>) -> Option<ArrayVec<usize, ENTRY_LIMIT>>
+    requires { length entries.now ≤ ENTRY_LIMIT }
     ensures some { IfSome result (λ s.
         Segments entries.now count (option_copied given.entry) s.items) }
     ensures only { (s : List ℕ) → Segments entries.now count (option_copied given.entry) s

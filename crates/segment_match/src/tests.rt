@@ -47,8 +47,8 @@ const ROWS: &[Row] = &[
     // sizes that are 2 to the power of 64 in all
     (&[V, V, V], 0, Some(&[i64::MAX, i64::MAX, 2]), None),
     // as many entries as there may be
-    (&[S; 32], 32, None, Some(&[1; 32])),
-    (&[V; 32], 32, Some(&[1; 32]), Some(&[1; 32])),
+    (&[S; ENTRY_LIMIT], ENTRY_LIMIT, None, Some(&[1; ENTRY_LIMIT])),
+    (&[V; ENTRY_LIMIT], ENTRY_LIMIT, Some(&[1; ENTRY_LIMIT]), Some(&[1; ENTRY_LIMIT])),
 ];
 
 fn entries(alloc: Global, arities: &[Arity]) -> Result<List<Entry>, AllocError> {
@@ -67,7 +67,7 @@ fn entries(alloc: Global, arities: &[Arity]) -> Result<List<Entry>, AllocError> 
 fn each_row_has_its_sizes(rt: HostRuntime) -> Result<(), Fail> {
     for (arities, count, given, want) in ROWS {
         let entries = entries(rt.alloc(), arities)?;
-        assert!(rt; entries.as_slice().len() <= 32);
+        assert!(rt; entries.as_slice().len() <= ENTRY_LIMIT);
         let found = sizes(entries.as_slice(), *count, *given);
         assert_eq!(rt; found.as_ref().map(|s| s.as_slice()), *want);
     }
