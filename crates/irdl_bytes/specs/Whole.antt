@@ -1,6 +1,5 @@
 -- What the reading of a whole file tells of its bytes.
 --
---   file_limit                     the greatest length of a file that is read
 --   TellsBytes told name result    what an answer of `read_whole` says of the bytes of a name
 --   IsPastLimit told name file     the open file is that of the name, one byte past the limit
 use Rattle.std.specs.Prelude.{◌≡◌, ℕ, ◌+◌, ◌<◌, List, length, ⊤}
@@ -11,12 +10,9 @@ use Rattle.std.specs.declared.result.Result.TheVariants.{Ok, Err}
 use Rattle.std.specs.declared.vec.Vec.{Vec}
 use Rattle.std.specs.declared.alloc.Global.{Global}
 use Rattle.irdl_bytes.specs.Outside.{FileMap, OpenFile}
+use Rattle.irdl_bytes.specs.declared.whole.TheConstants.{FILE_LIMIT}
 use Rattle.irdl_bytes.specs.declared.whole.ReadError.{ReadError}
 use Rattle.irdl_bytes.specs.declared.whole.ReadError.TheVariants.{ReadFault, InputLimit, OutOfMemory}
-
--- the greatest length of a file that is read, in bytes
-abbrev pub file_limit : ℕ
-file_limit = 16777216
 
 -- Where the bytes of names are told: those given are the name's, and a name whose file is too
 -- long has more bytes than the limit. An answer that isn't about the bytes says nothing of them.
@@ -24,11 +20,11 @@ abbrev pub TellsBytes : Option FileMap → List ℕ → Result (Vec ℕ Global) 
 TellsBytes None name result = ⊤
 TellsBytes (Some files) name (Ok read) = files name ≡ Some read.items
 TellsBytes (Some files) name (Err InputLimit) =
-    (bytes : List ℕ) × (files name ≡ Some bytes) × (file_limit < length bytes)
+    (bytes : List ℕ) × (files name ≡ Some bytes) × (FILE_LIMIT < length bytes)
 TellsBytes (Some files) name (Err ReadFault) = ⊤
 TellsBytes (Some files) name (Err OutOfMemory) = ⊤
 
 -- Where the bytes of names are told: so far the file of this name was read, and no further.
 abbrev pub IsPastLimit : Option FileMap → List ℕ → Option OpenFile → Type 0
 IsPastLimit None name file = ⊤
-IsPastLimit (Some files) name file = file ≡ Some (record { name = name; place = file_limit + 1 })
+IsPastLimit (Some files) name file = file ≡ Some (record { name = name; place = FILE_LIMIT + 1 })

@@ -2,7 +2,8 @@
 //!
 //! They tell no content, only how many calls failed: what a real file or stream holds is outside
 //! any proof. This is the trusted edge of the program.
-ghost use Rattle.std.specs.Prelude.{◌≡◌, ◌≤◌, length, IfOk};
+ghost use Rattle.std.specs.Prelude.{◌≡◌, ◌<◌, ◌≤◌, length, IfOk, OnOk, OnErr};
+ghost use Rattle.irdl_bytes.specs.Outside.{Rose};
 
 use crate::outside::{Failed, Files, Sink};
 use std::alloc::AllocError;
@@ -68,7 +69,14 @@ impl Files for HostFiles {
 
     ghost faults = { λ s. s.faults };
 
-    fn open(&mut self, name: &str) -> Result<(), Failed> {
+    /// As the trait's. A call that succeeds counts no fault.
+    fn open(&mut self, name: &str) -> Result<(), Failed>
+        ensures no_fault { OnOk result (self.new.faults ≡ self.old.faults) }
+
+        // What the trait asks for.
+        ensures later { self.old.faults ≤ self.new.faults }
+        ensures cause { OnErr result (Rose self.old.faults self.new.faults) }
+    {
         self.file = File::open(&self.rt, name).ok();
         if self.file.is_some() {
             return Ok(());
@@ -77,8 +85,16 @@ impl Files for HostFiles {
         Err(Failed)
     }
 
-    /// Where no file is open, no bytes are read.
-    fn read(&mut self, into: &mut [u8]) -> Result<usize, Failed> {
+    /// As the trait's. Where no file is open, no bytes are read. A call that succeeds counts no fault.
+    fn read(&mut self, into: &mut [u8]) -> Result<usize, Failed>
+        requires { 0 < length into.old }
+        ensures no_fault { OnOk result (self.new.faults ≡ self.old.faults) }
+
+        // What the trait asks for.
+        ensures within { IfOk result (λ n. n ≤ length into.new) }
+        ensures later { self.old.faults ≤ self.new.faults }
+        ensures cause { OnErr result (Rose self.old.faults self.new.faults) }
+    {
         let Some(file) = &mut self.file else {
             return Ok(0);
         };
@@ -143,7 +159,14 @@ impl Sink for HostSink {
 
     ghost faults = { λ s. s.faults };
 
-    fn write_all(&mut self, piece: &[u8]) -> Result<(), Failed> {
+    /// As the trait's. A call that succeeds counts no fault.
+    fn write_all(&mut self, piece: &[u8]) -> Result<(), Failed>
+        ensures no_fault { OnOk result (self.new.faults ≡ self.old.faults) }
+
+        // What the trait asks for.
+        ensures later { self.old.faults ≤ self.new.faults }
+        ensures cause { OnErr result (Rose self.old.faults self.new.faults) }
+    {
         let written = match &mut self.stream {
             Stream::Out(out) => out.write_all(piece),
             Stream::Err(err) => err.write_all(piece),

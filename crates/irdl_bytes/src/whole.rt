@@ -1,7 +1,7 @@
 //! A file's bytes as a whole, up to a limit.
 ghost use Rattle.std.specs.Prelude.{◌≡◌, ◌<◌, ◌≤◌, IfOk, IsErrOf, IsTrue, length, vec_len};
 ghost use Rattle.irdl_bytes.specs.Outside.{Rose, Lacks};
-ghost use Rattle.irdl_bytes.specs.Whole.{file_limit, TellsBytes, IsPastLimit};
+ghost use Rattle.irdl_bytes.specs.Whole.{TellsBytes, IsPastLimit};
 
 use crate::outside::Files;
 use std::alloc::{AllocError, Global};
@@ -39,7 +39,7 @@ fn new_buffer(alloc: Global) -> Result<Vec<u8>, AllocError>
 #[tactic(auto, using(crate::proofs::Reading::reading))]
 pub fn read_whole<F: Files>(alloc: Global, files: &mut F, name: &str) -> Result<Vec<u8>, ReadError>
     ensures told { TellsBytes (F.file_map files.old) name.now result }
-    ensures within { IfOk result (λ bytes. length bytes.items ≤ file_limit) }
+    ensures within { IfOk result (λ bytes. length bytes.items ≤ FILE_LIMIT) }
     ensures past_limit { IsErrOf result ReadError.InputLimit →
         IsPastLimit (F.file_map files.old) name.now (F.open_file files.new) }
 

@@ -13,7 +13,8 @@ use Rattle.std.specs.declared.result.Result.TheVariants.{Ok, Err}
 use Rattle.std.specs.declared.vec.Vec.{Vec}
 use Rattle.std.specs.declared.alloc.Global.{Global}
 use Rattle.irdl_bytes.specs.Outside.{FileMap, Lacks, Rose, FaultsByItself}
-use Rattle.irdl_bytes.specs.Whole.{file_limit, TellsBytes}
+use Rattle.irdl_bytes.specs.Whole.{TellsBytes}
+use Rattle.irdl_bytes.specs.declared.whole.TheConstants.{FILE_LIMIT}
 use Rattle.irdl_bytes.specs.declared.whole.ReadError.TheVariants.{InputLimit}
 use Rattle.ir_lexer.specs.Source.{Source}
 use Rattle.ir_lexer.specs.Slice.{Tells}
@@ -110,7 +111,7 @@ names-fail src d found f r first e stands rule spells =
 
 -- of an accepted file
 pub accepted-as : (told : Option FileMap) (failed : Type 0) (def : Text) (v : Vec ℕ Global)
-    → TellsBytes told def (Ok v) → length v.items ≤ file_limit → IsDefinition v.items
+    → TellsBytes told def (Ok v) → length v.items ≤ FILE_LIMIT → IsDefinition v.items
     → IfSome told (λ m. MayAnswer m failed (Some (Check def)) (said def Accepted))
 accepted-as None failed def v h le d = tt
 accepted-as (Some m) failed def v h le d = inl (rw h (inr (le, inl (d, refl))))
@@ -118,7 +119,7 @@ accepted-as (Some m) failed def v h le d = inl (rw h (inr (le, inl (d, refl))))
 -- of a refused file
 pub refused-as : (told : Option FileMap) (failed : Type 0) (def : Text) (v : Vec ℕ Global)
     (r : Refusal)
-    → TellsBytes told def (Ok v) → length v.items ≤ file_limit → Shows v.items r
+    → TellsBytes told def (Ok v) → length v.items ≤ FILE_LIMIT → Shows v.items r
     → IfSome told (λ m. MayAnswer m failed (Some (Check def)) (said def (RefusedFor r)))
 refused-as None failed def v r h le s = tt
 refused-as (Some m) failed def v r h le s =

@@ -9,7 +9,7 @@ use Rattle.std.specs.Prelude.{IfSome, IsTrue}
 use Rattle.std.specs.declared.option.Option.{Option}
 use Rattle.std.specs.declared.option.Option.TheVariants.{Some, None}
 use Rattle.irdl_bytes.specs.Outside.{FileMap, FaultsByItself, Rose}
-use Rattle.irdl_bytes.specs.Whole.{file_limit}
+use Rattle.irdl_bytes.specs.declared.whole.TheConstants.{FILE_LIMIT}
 use Rattle.ir_lexer.specs.Spelling.{Text}
 use Rattle.ir_lexer.proofs.Once.{one-list}
 use Rattle.grammar.specs.Answers.{IsRefusal}
@@ -103,7 +103,7 @@ judged-once name src a b (inr (p, c, r, e)) (inr (q, k, r2, e2)) =
     e ∙ same-refused name src p q c k (one-place src p q c k r r2) ∙ sym e2
 
 -- nothing is longer than the limit and within it
-not-longer : (n : ℕ) → file_limit < n → n ≤ file_limit → ⊥
+not-longer : (n : ℕ) → FILE_LIMIT < n → n ≤ FILE_LIMIT → ⊥
 not-longer n more less = omega arith
 
 checked-once : (name : Text) (found : Option Text) (a b : Answer)

@@ -15,7 +15,7 @@ use Rattle.std.specs.List.{concat}
 use Rattle.std.specs.declared.option.Option.{Option}
 use Rattle.std.specs.declared.option.Option.TheVariants.{Some, None}
 use Rattle.irdl_bytes.specs.Outside.{FileMap}
-use Rattle.irdl_bytes.specs.Whole.{file_limit}
+use Rattle.irdl_bytes.specs.declared.whole.TheConstants.{FILE_LIMIT}
 use Rattle.ir_lexer.specs.Place.{line_at, column_at}
 use Rattle.ir_lexer.specs.declared.place.LineCol.{LineCol}
 use Rattle.ir_lexer.specs.Spelling.{Text}
@@ -83,8 +83,8 @@ Judged name src a = (IsDefinition src × (a ≡ done))
 abbrev pub Checked : Text → Option Text → Answer → Type 0
 Checked name None a = a ≡ read_fault name
 Checked name (Some src) a =
-    ((file_limit < length src) × (a ≡ input_limit name))
-    ⊎ ((length src ≤ file_limit) × Judged name src a)
+    ((FILE_LIMIT < length src) × (a ≡ input_limit name))
+    ⊎ ((length src ≤ FILE_LIMIT) × Judged name src a)
 
 -- words that are no command get the usage line, and `check` judges its file
 abbrev pub Obeys : FileMap → Option Command → Answer → Type 0
@@ -112,5 +112,5 @@ pub record Accepted (files : FileMap) (command : Option Command) : Type 0 where
   pub src : Text
   pub spells : command ≡ Some (Check def)
   pub has : files def ≡ Some src
-  pub within : length src ≤ file_limit
+  pub within : length src ≤ FILE_LIMIT
   pub accepted : IsDefinition src

@@ -2,7 +2,7 @@
 
 ghost use Rattle.std.specs.Prelude.{◌≡◌, ◌≤◌, Some, IsTrue, IfOk, IfSome, length};
 ghost use Rattle.irdl_bytes.specs.Outside.{Rose, FaultsByItself};
-ghost use Rattle.irdl_bytes.specs.Whole.{file_limit};
+ghost use Rattle.irdl_bytes.specs.declared.whole.TheConstants.{FILE_LIMIT};
 ghost use Rattle.irdl_engine.specs.Command as spec;
 ghost use Rattle.irdl_engine.specs.Answer.{MayAnswer};
 ghost use Rattle.irdl_engine.specs.Judged as judged;
@@ -31,7 +31,7 @@ fn rule_of(code: SyntaxCode) -> DefCode
 
 /// A refusal by this rule, at this place of the text.
 fn refusal_at(src: &[u8], place: u32, code: DefCode) -> Refusal
-    requires { length src.now ≤ file_limit }
+    requires { length src.now ≤ FILE_LIMIT }
     ensures stands { StandsAt src.now result place }
     ensures rule { result.code ≡ code }
 {
@@ -47,7 +47,7 @@ fn judge_file_names(
     src: &[u8],
     defs: &RawDefs,
 ) -> Result<Option<Refusal>, AllocError>
-    requires { length src.now ≤ file_limit }
+    requires { length src.now ≤ FILE_LIMIT }
     ensures { IfOk result (λ verdict. SpellsFile src.now defs.now → IsVerdict src.now verdict) }
 {
     match judge_names(alloc, defs)? {
@@ -61,7 +61,7 @@ fn judge_file_names(
 
 /// Judges the bytes of a definition file: the rule that they break first, if any.
 pub fn judge_text(alloc: Global, src: &[u8]) -> Result<Option<Refusal>, AllocError>
-    requires { length src.now ≤ file_limit }
+    requires { length src.now ≤ FILE_LIMIT }
     ensures { IfOk result (λ verdict. IsVerdict src.now verdict) }
 {
     let mut tokens = SliceTokens::new(src);
