@@ -9,17 +9,13 @@ use Rattle.ir_lexer.specs.Spelling.{Text}
 use Rattle.text_layout.specs.declared.error.PrintError.{PrintError}
 use Rattle.text_layout.specs.declared.error.PrintError.TheVariants.{WriteFault, OutputLimit, OutOfMemory}
 use Rattle.text_layout.specs.Flow.{Flow, Adds, PrintHasCause, Drains}
-use Rattle.text_layout.proofs.Appending.{appends-then, fronts-then}
+use Rattle.text_layout.proofs.Appending.{appends-then, appends-nothing, fronts-then, front-behind}
 
 -- ---- what sinks are told
 
--- nothing was appended
-pub nothing : (w : Option Text) → Appends w w []
-nothing None = tt
-nothing (Some x) = sym (append-nil x)
-
+-- a sink that is left alone got a front of any bytes
 pub no-front : (w : Option Text) (t : Text) → AppendsPrefix w w t
-no-front w t = (0, nothing w)
+no-front w t = (0, appends-nothing w)
 
 -- all of it is a front
 pub whole-front : (w v : Option Text) (t : Text) → Appends w v t → AppendsPrefix w v t
@@ -103,12 +99,6 @@ cut-front w v sent held gap text laid n m e f is h =
 pub rose-later : (m n k : ℕ) → m ≤ n → Rose n k → Rose m k
 rose-later m n k le rose = omega arith
 
--- a front of the second bytes, behind all of the first
-pub front-behind : (a b c : Option Text) (xs ys : Text) → Appends a b xs → AppendsPrefix b c ys
-    → AppendsPrefix a c (xs ++ ys)
-front-behind a b c xs ys h k =
-    subst (λ t. AppendsPrefix a c (xs ++ t)) (append-nil ys) (fronts-then a b c xs ys [] h k)
-
 -- what was sent, and what is owed then, is what was owed before
 owed : (f g : Flow) (x y : Text) (a : Adds f x g) → a.sent ++ (g.held ++ y) ≡ f.held ++ (x ++ y)
 owed f g x y a =
@@ -127,7 +117,7 @@ pub adds-nothing : (f : Flow) → Adds f [] f
 adds-nothing f = record {
   laid = omega arith;
   sent = [];
-  written = nothing f.written;
+  written = appends-nothing f.written;
   held = sym (append-nil f.held);
   later = omega arith;
 }

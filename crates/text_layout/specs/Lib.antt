@@ -2,9 +2,10 @@ pub mod Lines
 pub mod Flow
 pub mod Moment
 pub mod Page
-pub mod OutputFlow
 pub mod PageInside
-pub mod Blank
 pub mod OfLayout
 pub mod Apart
 pub mod Refusal
+pub mod Blank
+pub mod OutputFlow
+pub mod Pieces

@@ -1,4 +1,8 @@
--- The flow of an output to a sink that got these bytes and failed so often.
+-- An output as the flow of its bytes to a sink.
+--
+--   flow_of out written faults  its flow to a sink that got these bytes and failed so often
+--
+-- Inside: no public clause rests on this.
 use Rattle.std.specs.Prelude.{ℕ, Option}
 use Rattle.ir_lexer.specs.Spelling.{Text}
 use Rattle.text_layout.specs.declared.output.Output.{Output}

@@ -1,7 +1,13 @@
 -- What the fields of a page mean, and what always holds of them.
+--
+--   page_of p           the page that the fields stand for
+--   HasRoom out         an output has room for a line feed
+--   IsRow ends text out the line's last text spells its class, and its end has room
+--   IsPage p            what always holds of the fields
 use Rattle.std.specs.Prelude.{◌+◌, ◌≤◌, length, Option, Some, None, vec_capacity}
 use Rattle.ir_lexer.specs.declared.lexer.TheConstants.{TEXT_LIMIT}
 use Rattle.ir_lexer.specs.Spelling.{Text, Spells}
+use Rattle.text_layout.specs.declared.blank.TheConstants.{INDENT_LIMIT}
 use Rattle.text_layout.specs.declared.output.Output.{Output}
 use Rattle.text_layout.specs.declared.page.Page.TheInside.{Inside}
 use Rattle.text_layout.specs.declared.rules.Ends.{Ends}
@@ -31,6 +37,6 @@ IsRow None text out = Unit {0}
 IsRow (Some ends) text out = Spells ends.last text × (length text ≤ TEXT_LIMIT) × HasRoom out
 
 pub record IsPage (p : Inside) : Type 0 where
-  pub indent : p.indent ≤ 130
+  pub indent : p.indent ≤ INDENT_LIMIT
   pub within : p.output.laid ≤ TEXT_LIMIT
   pub row : IsRow p.ends p.spelling.items p.output

@@ -1,4 +1,7 @@
 -- The line that tells of a refusal.
+--
+--   refusal_line file place code name detail
+--                 `FILE:LINE:COLUMN: error CODE NAME`, the detail as it stands, and a line feed
 use Rattle.std.specs.Prelude.{[], ◌∷◌, codes, decimal}
 use Rattle.std.specs.List.{concat}
 use Rattle.ir_lexer.specs.declared.place.LineCol.{LineCol}

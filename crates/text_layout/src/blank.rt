@@ -1,9 +1,12 @@
 //! The bytes before a token.
 
-ghost use Rattle.std.specs.Prelude.{◌≡◌, ◌≤◌, ◌∷◌};
+ghost use Rattle.std.specs.Prelude.{◌≡◌, ◌+◌, ◌≤◌, ◌∷◌};
 ghost use Rattle.ir_lexer.specs.Signs.{line_feed};
 ghost use Rattle.text_layout.specs.Blank.{blank_text, IsShort};
 ghost use Rattle.text_layout.specs.Lines.{spaces};
+
+/// The greatest indent that a break of the line sets, in spaces.
+pub const INDENT_LIMIT: u32 = 130;
 
 /// What stands before a token.
 #[derive(Clone, Copy)]
@@ -16,12 +19,12 @@ pub enum Blank {
     Break(u32),
 }
 
-/// A line feed, and the longest indent, of 132 spaces.
+/// A line feed, and the longest indent: two spaces more than [`INDENT_LIMIT`].
 static BLANKS: &[u8] = b"\n                                                                  \
     \x20                                                                 ";
 
 fn longest_blank() -> &'static [u8]
-    ensures { result.now ≡ line_feed ∷ spaces 132 }
+    ensures { result.now ≡ line_feed ∷ spaces (INDENT_LIMIT + 2) }
 {
     BLANKS
 }

@@ -2,6 +2,7 @@
 
 ghost use Rattle.std.specs.Prelude.{◌≡◌, ◌≢◌, ◌≤◌, ◌∷◌, [], Ok, Err, Some, None, IfErr};
 ghost use Rattle.ir_lexer.specs.Spelling.{Spells};
+ghost use Rattle.text_layout.specs.declared.blank.TheConstants.{INDENT_LIMIT};
 ghost use Rattle.text_layout.specs.Lines as line;
 ghost use Rattle.text_layout.specs.Moment.{first_moment, Lays, Repeats, Ended};
 ghost use Rattle.text_layout.specs.OfLayout.{sink_of, moment};
@@ -72,10 +73,10 @@ impl<'a, S: Sink> Layout<'a, S, Page> {
         self.page.ask(gap);
     }
 
-    /// Ends the line where it has a token, and sets the indent of the next one, in spaces. It takes
-    /// no memory, and may answer `WriteFault` or `OutputLimit`.
+    /// Ends the line where it has a token, and sets the indent of the next one, in spaces, at most
+    /// [`INDENT_LIMIT`]. It takes no memory, and may answer `WriteFault` or `OutputLimit`.
     pub fn break_line(&mut self, indent: u32) -> Result<(), PrintError>
-        requires { indent ≤ 130 }
+        requires { indent ≤ INDENT_LIMIT }
         ensures lays { Lays (moment S.written S.faults self.old) (line.break_line indent ∷ [])
             result (moment S.written S.faults self.new) }
         ensures memory { (moment S.written S.faults self.old).stopped ≡ None →

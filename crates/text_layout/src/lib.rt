@@ -18,6 +18,7 @@ mod pieces;
 mod refusal;
 mod rules;
 
+pub use blank::INDENT_LIMIT;
 pub use error::PrintError;
 pub use gap::Gap;
 pub use laws::{adds_up, reads_back};

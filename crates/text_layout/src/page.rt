@@ -4,6 +4,7 @@ ghost use Rattle.std.specs.Prelude.{◌≡◌, ◌≢◌, ◌≤◌, ◌∷◌, 
 ghost use Rattle.ir_lexer.specs.Signs.{space};
 ghost use Rattle.ir_lexer.specs.declared.lexer.TheConstants.{TEXT_LIMIT};
 ghost use Rattle.ir_lexer.specs.Spelling.{Spells};
+ghost use Rattle.text_layout.specs.declared.blank.TheConstants.{INDENT_LIMIT};
 ghost use Rattle.text_layout.specs.Blank.{blank_text, IsShort};
 ghost use Rattle.text_layout.specs.Flow.{Stops};
 ghost use Rattle.text_layout.specs.Lines.{token, ask, break_line, line_end, line_after, bytes_of, gap_before};
@@ -95,7 +96,7 @@ impl Page {
 
     /// Ends the line where it has a token, and sets the indent of the next. It takes no memory.
     pub fn add_break<S: Sink>(&mut self, sink: &mut S, indent: u32) -> Result<(), PrintError>
-        requires { indent ≤ 130 }
+        requires { indent ≤ INDENT_LIMIT }
         ensures lays { Lays (moment_of self.old (S.written sink.old) (S.faults sink.old))
             (break_line indent ∷ []) result
             (moment_of self.new (S.written sink.new) (S.faults sink.new)) }
@@ -178,7 +179,7 @@ impl Page {
 
     /// Ends the line, where no error came before.
     fn try_break<S: Sink>(&mut self, sink: &mut S, indent: u32) -> Result<(), PrintError>
-        requires short { indent ≤ 130 }
+        requires short { indent ≤ INDENT_LIMIT }
         requires going { self.old.stopped ≡ None }
         ensures ok { OnOk result (Laid (moment_of self.old (S.written sink.old) (S.faults sink.old))
             (break_line indent ∷ [])

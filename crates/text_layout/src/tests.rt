@@ -1,7 +1,9 @@
 //! What no clause says: that calls succeed, and the bytes of rows that were written by hand.
 
+mod lines;
+
 use super::*;
-use ir_lexer::{Class, LineCol, SliceTokens, TEXT_LIMIT, TokenSource, class_of};
+use ir_lexer::{Class, SliceTokens, TEXT_LIMIT, TokenSource, class_of};
 use irdl_bytes::{MemSink, Sink};
 use std::alloc::Global;
 use std::process::Abort;
@@ -328,57 +330,6 @@ fn errors_are_called_by_their_names(rt: HostRuntime) -> Result<(), Fail> {
         (PrintError::OutOfMemory, "OutOfMemory"),
     ] {
         assert_eq!(rt; format!(in rt.alloc(); "{error}")?.as_str(), name);
-    }
-    Ok(())
-}
-
-// The file, line and column, code, name and detail of a refusal, and its line.
-const REFUSALS: &[(&str, (u32, u32), (&str, &str, &str), &str)] = &[
-    (
-        "m.mlir",
-        (1, 16),
-        ("M16", "IntRange", ""),
-        "m.mlir:1:16: error M16 IntRange\n",
-    ),
-    (
-        "f.irdl",
-        (5, 21),
-        ("9", "FormatSyntax", " at 3"),
-        "f.irdl:5:21: error 9 FormatSyntax at 3\n",
-    ),
-    (
-        "f4.irdl",
-        (7, 21),
-        ("14", "FormatAmbiguous", " at 0 on :"),
-        "f4.irdl:7:21: error 14 FormatAmbiguous at 0 on :\n",
-    ),
-    (
-        "f.irdl",
-        (5, 21),
-        ("15", "FormatNoType", " of operand 0"),
-        "f.irdl:5:21: error 15 FormatNoType of operand 0\n",
-    ),
-    (
-        "",
-        (4_294_967_295, 16_777_217),
-        ("15", "FormatNoType", " of result 31"),
-        ":4294967295:16777217: error 15 FormatNoType of result 31\n",
-    ),
-];
-
-#[test]
-fn a_refusal_has_its_line_or_a_front_of_it(rt: HostRuntime) -> Result<(), Fail> {
-    for (file, (line, column), (code, name, detail), want) in REFUSALS {
-        let place = LineCol {
-            line: *line,
-            column: *column,
-        };
-        for room in 0..=want.len() {
-            let mut sink = MemSink::new(rt.alloc(), room)?;
-            let answer = write_refusal(&mut sink, file, place, code, name, detail);
-            assert_eq!(rt; answer.is_ok(), room == want.len(), "{want}");
-            assert_eq!(rt; sink.bytes(), &want.as_bytes()[..room], "{want}");
-        }
     }
     Ok(())
 }
