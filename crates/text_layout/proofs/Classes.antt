@@ -59,5 +59,6 @@ keeps (token b y ∷ ms) indent (Some row) asked (Some a) h e =
     (refl, is-not (is_float_class b) (and-left (not (is_float_class b)) (apart && rest) e))
     (and-right apart rest others))
 
+-- marks whose classes never clash keep apart
 pub no-clashes : (marks : List Mark) → never_clash marks ≡ true → are_apart marks ≡ true
 no-clashes marks e = keeps marks 0 None gap.Plain None tt e

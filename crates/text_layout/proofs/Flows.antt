@@ -83,6 +83,7 @@ cut-whole w v sent held gap text laid n m beyond e f is h =
     (ap (λ t. t ++ (take n gap ++ (take m text ++ []))) is
     ∙ cut-is held gap text (TEXT_LIMIT - laid) n m e f) h
 
+-- what was held, and the gap and the text up to the limit, is a front of all
 pub cut-front : (w v : Option Text) (sent held gap text : Text) (laid n m : ℕ)
     → n ≡ min (length gap) (TEXT_LIMIT - laid)
     → m ≡ TEXT_LIMIT - laid - length (take n gap)
@@ -96,6 +97,7 @@ cut-front w v sent held gap text laid n m e f is h =
 
 -- ---- bytes behind bytes
 
+-- a count that rose later rose
 pub rose-later : (m n k : ℕ) → m ≤ n → Rose n k → Rose m k
 rose-later m n k le rose = omega arith
 
@@ -104,6 +106,7 @@ owed : (f g : Flow) (x y : Text) (a : Adds f x g) → a.sent ++ (g.held ++ y) �
 owed f g x y a =
     sym (append_assoc a.sent g.held y) ∙ ap (λ t. t ++ y) a.held ∙ append_assoc f.held x y
 
+-- bytes that went in, and then others, went in together
 pub adds-then : (f g h : Flow) (x y : Text) → Adds f x g → Adds g y h → Adds f (x ++ y) h
 adds-then f g h x y a b = record {
   laid = omega (arith, a.laid, b.laid, length-append x y);
@@ -113,6 +116,7 @@ adds-then f g h x y a b = record {
   later = omega (arith, a.later, b.later);
 }
 
+-- no bytes went in by doing nothing
 pub adds-nothing : (f : Flow) → Adds f [] f
 adds-nothing f = record {
   laid = omega arith;
@@ -138,6 +142,7 @@ up-to-limit f g x y a within =
         ≡ length f.held + (TEXT_LIMIT - f.laid)
     count = omega (arith, both, a.laid, within)
 
+-- an error behind bytes that went in has its cause in all of them
 pub cause-then : (f g : Flow) (x y : Text) (e : PrintError) (w : Option Text) (n : ℕ) → Adds f x g
     → g.laid ≤ TEXT_LIMIT → PrintHasCause g y e w n → PrintHasCause f (x ++ y) e w n
 cause-then f g x y WriteFault w n a within (rose, part) = (
@@ -154,6 +159,7 @@ cause-then f g x y OutOfMemory w n a within part =
     subst (AppendsPrefix f.written w) (owed f g x y a)
     (front-behind f.written g.written w a.sent (g.held ++ y) a.written part)
 
+-- an error has its cause in longer bytes too
 pub cause-more : (f : Flow) (x y : Text) (e : PrintError) (w : Option Text) (n : ℕ)
     → PrintHasCause f x e w n → PrintHasCause f (x ++ y) e w n
 cause-more f x y WriteFault w n (rose, part) = (
@@ -173,6 +179,7 @@ cause-more f x y OutOfMemory w n part =
     subst (AppendsPrefix f.written w) (append_assoc f.held x y)
     (front-of-more f.written w (f.held ++ x) y part)
 
+-- last bytes behind others that went in are the last of all
 pub drains-then : (f g : Flow) (x y : Text) (r : Result (Unit {0}) PrintError) (w : Option Text)
     (n : ℕ) → Adds f x g → g.laid ≤ TEXT_LIMIT → Drains g y r w n → Drains f (x ++ y) r w n
 drains-then f g x y (Ok done) w n a within (all, short, later) = (

@@ -11,6 +11,7 @@ pub tight-dims : (first a b : Class) (text : Text) → is_tight first a text b �
 tight-dims first a b text e is =
     absurd (cc (sym e ∙ ap (λ x. is_tight first x text b) is))
 
+-- an empty literal between tight tokens makes no space
 pub empty-tight : (row : Row) (b : Class) (text : Text)
     → is_tight row.first row.last row.text b ≡ true
     → [] ≡ (if stays_apart row.text text then [] else plain_gap row b)
@@ -20,6 +21,7 @@ empty-tight row b text e = go (stays_apart row.text text)
     go true = refl
     go false = rw e refl
 
+-- an empty literal between others makes none where the texts stay apart
 pub empty-loose : (row : Row) (b : Class) (text : Text)
     → is_tight row.first row.last row.text b ≡ false
     → (if stays_apart row.text text then [] else space ∷ [])

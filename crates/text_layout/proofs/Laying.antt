@@ -10,6 +10,7 @@ use Rattle.text_layout.proofs.Flows.{adds-then, adds-nothing, cause-then, cause-
 
 -- ---- marks behind marks
 
+-- the bytes of marks and then of others
 pub text-join : (line : Line) (ms ns : List Mark)
     → text_of line (ms ++ ns) ≡ text_of line ms ++ text_of (line_behind line ms) ns
 text-join line [] ns = refl
@@ -18,11 +19,13 @@ text-join line (m ∷ ms) ns =
     ∙ sym (append_assoc (bytes_of line m) (text_of (line_after line m) ms)
     (text_of (line_behind (line_after line m) ms) ns))
 
+-- where the line stands behind marks and then others
 pub line-join : (line : Line) (ms ns : List Mark)
     → line_behind line (ms ++ ns) ≡ line_behind (line_behind line ms) ns
 line-join line [] ns = refl
 line-join line (m ∷ ms) ns = line-join (line_after line m) ms ns
 
+-- no marks went in by doing nothing
 pub lays-nothing : (m : Moment) → Lays m [] (Ok tt) m
 lays-nothing m = λ goes. record { goes = goes; line = refl; adds = adds-nothing m.flow }
 

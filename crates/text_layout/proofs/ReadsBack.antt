@@ -216,6 +216,7 @@ all-apart (break_line n ∷ ms) before line exponent blank spelled test =
     all-apart ms (before ++ line_end line.row) (line_after line (break_line n)) false
     (append-gap before (line_end line.row) blank (end-is-blank line.row)) spelled test
 
+-- the tokens of a layout are those handed in, where they keep apart
 pub layout-reads-back : (marks : List Mark) → AreSpelled marks → are_apart marks ≡ true
     → AreTokens (layout marks) (tokens_of marks)
 layout-reads-back marks spelled test =

@@ -36,6 +36,7 @@ reads-integer-word x s spelled tells =
     ap (passes int_word) (only-token c.Word x s.now tells.tokens.0 spelled tells.tokens.2)
     ∙ ap (λ b. b && is_integer_word x) (same-class-refl c.Word)
 
+-- the test passes where no spelling is longer than the first text
 pub apart-is : (a : Class) (x y : Text) → Spells a x → NoneLonger x y → stays_apart x y ≡ true
 apart-is a x y spelled none =
     let f = front (x ++ y) in
@@ -44,6 +45,7 @@ apart-is a x y spelled none =
     same-numbers : (n m : ℕ) → n ≡ m → nat_eq n m ≡ true
     same-numbers n m e = grind (arith, e)
 
+-- where the test passes, no spelling is longer than the first text
 pub is-apart : (a : Class) (x y : Text) → Spells a x → stays_apart x y ≡ true → NoneLonger x y
 is-apart a x y spelled e =
     let f = front (x ++ y) in
@@ -55,9 +57,11 @@ is-apart a x y spelled e =
 abbrev pub NoneYet : Text → Text → ℕ → Type 0
 NoneYet x y n = (k : ℕ) (class : Class) → 0 < k → k ≤ n → Spells class (x ++ take k y) → ⊥
 
+-- none of no bytes ends a spelling
 pub none-yet : (x y : Text) → NoneYet x y 0
 none-yet x y k class more le = absurd (omega arith)
 
+-- one byte more that ends none
 pub none-more : (x y : Text) (n : ℕ) → NoneYet x y n
     → ((class : Class) → Spells class (x ++ take (n + 1) y) → ⊥) → NoneYet x y (n + 1)
 none-more x y n none last k class more le spelled = elim (before-or-at k n le) [
@@ -68,6 +72,7 @@ none-more x y n none last k class more le spelled = elim (before-or-at k n le) [
     before-or-at : (k n : ℕ) → k ≤ n + 1 → (k ≤ n) ⊎ (k ≡ n + 1)
     before-or-at k n le = grind arith
 
+-- the first text and one byte more of the second
 pub one-byte-more : (joined x y : Text) (i d : ℕ) → i < length y → joined ≡ x ++ take i y
     → joined ++ get_or y i d ∷ [] ≡ x ++ take (i + 1) y
 one-byte-more joined x y i d less e =
@@ -82,6 +87,7 @@ cut-behind x y m le =
     let is : m ≡ length x + (m - length x) = omega arith in
     ap (λ n. take n (x ++ y)) is ∙ take-append-add x y (m - length x)
 
+-- a longer spelling fails the test
 pub joins : (a class : Class) (x y : Text) (i : ℕ) → Spells a x → 0 < i → i ≤ length (take 3 y)
     → Spells class (x ++ take i (take 3 y)) → false ≡ stays_apart x y
 joins a class x y i spelled more le longer = sym (not-true (stays_apart x y) (λ e.
@@ -99,6 +105,7 @@ joins a class x y i spelled more le longer = sym (not-true (stays_apart x y) (λ
     again : take i (take 3 y) ≡ take i y
     again = take-take i 3 y within
 
+-- where none of the first three bytes ends a spelling, the test passes
 pub no-join : (a : Class) (x y : Text) → Spells a x → a ≢ c.Dims
     → NoneYet x (take 3 y) (length (take 3 y)) → true ≡ stays_apart x y
 no-join a x y spelled other none =

@@ -24,6 +24,7 @@ is_tight_class a b =
     no_space_behind a || (no_space_before b
     || (no_space_between a b || (is_colon b && not (is_colon a))))
 
+-- one of two tests that passes
 pub or-cases : (a b : Bool) → (a || b) ≡ true → (a ≡ true) ⊎ (b ≡ true)
 or-cases true b e = inl refl
 or-cases false b e = inr e
@@ -62,6 +63,7 @@ tight-apart first a b text e f =
 
 -- ---- the gap itself
 
+-- two gaps make a gap
 pub append-gap : (t u : Text) → IsGap t → IsGap u → IsGap (t ++ u)
 append-gap [] u h k = k
 append-gap (b ∷ t) u h k = (h.0, append-gap t u h.1 k)
@@ -77,6 +79,7 @@ plain-blank row b = go (is_tight row.first row.last row.text b)
     go true = tt
     go false = (refl, tt)
 
+-- what stands before a token is a gap
 pub gap-is-blank : (asked : Gap) (indent : ℕ) (row : Option Row) (b : Class) (y : Text)
     → IsGap (gap_by asked indent row b y)
 gap-is-blank asked indent None b y = spaces-blank indent
@@ -89,6 +92,7 @@ gap-is-blank gap.Empty indent (Some row) b y = go (stays_apart row.text y)
     go false = plain-blank row b
 gap-is-blank gap.Newline indent (Some row) b y = (refl, spaces-blank (indent + 2))
 
+-- what ends a line is a gap
 pub end-is-blank : (row : Option Row) → IsGap (line_end row)
 end-is-blank None = tt
 end-is-blank (Some row) = (refl, tt)
@@ -102,6 +106,7 @@ plain-empty row b e = go (is_tight row.first row.last row.text b) e
     go true e = refl
     go false e = absurd (cc)
 
+-- no gap stands between two tokens by their classes, or since their texts stay apart
 pub empty-gap : (asked : Gap) (indent : ℕ) (row : Row) (b : Class) (y : Text)
     → gap_by asked indent (Some row) b y ≡ []
     → (is_tight row.first row.last row.text b ≡ true) ⊎ (stays_apart row.text y ≡ true)
@@ -141,6 +146,7 @@ touching asked indent row b y rest f g e not_six next sign =
           (is-apart row.last row.text y f apart) next sign
     ]
 
+-- classes that put no space keep two spellings apart, but for the six pairs
 pub tight-texts : (first a b : Class) (x y rest : Text) → Spells a x → Spells b y
     → is_tight first a x b ≡ true → may_run_together a b ≡ false → NoneLonger x (y ++ rest)
 tight-texts first a b x y rest f g t not_six =

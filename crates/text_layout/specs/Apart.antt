@@ -35,6 +35,7 @@ may_run_together c.Colon c.ColonColon = true
 may_run_together c.Minus c.Greater = true
 may_run_together _ _ = false
 
+-- the class is that of floats
 abbrev pub is_float_class : Class → Bool
 is_float_class c.Float = true
 is_float_class _ = false
@@ -44,6 +45,7 @@ abbrev pub ends_with_float : Option Row → Bool
 ends_with_float None = false
 ends_with_float (Some row) = is_float_class row.last
 
+-- the text has no byte
 abbrev pub is_empty : Text → Bool
 is_empty [] = true
 is_empty (b ∷ t) = false
@@ -71,6 +73,7 @@ keeps_apart exponent line (ask gap ∷ marks) =
 keeps_apart exponent line (break_line indent ∷ marks) =
     keeps_apart false (line_after line (break_line indent)) marks
 
+-- no tokens of marks that may run together stand side by side without a gap
 abbrev pub are_apart : List Mark → Bool
 are_apart marks = keeps_apart false first_line marks
 
@@ -100,5 +103,6 @@ tokens_from at line (ask gap ∷ marks) = tokens_from at (line_after line (ask g
 tokens_from at line (break_line indent ∷ marks) =
     tokens_from (at + length (line_end line.row)) (line_after line (break_line indent)) marks
 
+-- the tokens of marks at their places, and the end of the text
 abbrev pub tokens_of : List Mark → List Token
 tokens_of marks = tokens_from 0 first_line marks

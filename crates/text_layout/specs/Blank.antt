@@ -12,6 +12,7 @@ use Rattle.text_layout.specs.declared.blank.Blank.{Blank}
 use Rattle.text_layout.specs.declared.blank.Blank.TheVariants.{Nothing, Space, Indent, Break}
 use Rattle.text_layout.specs.Lines.{spaces}
 
+-- the bytes of a blank
 abbrev pub blank_text : Blank → Text
 blank_text Nothing = []
 blank_text Space = space ∷ []

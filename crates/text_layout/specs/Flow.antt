@@ -18,6 +18,7 @@ use Rattle.ir_lexer.specs.Spelling.{Text}
 use Rattle.text_layout.specs.declared.error.PrintError.{PrintError}
 use Rattle.text_layout.specs.declared.error.PrintError.TheVariants.{WriteFault, OutputLimit, OutOfMemory}
 
+-- what went in so far, and what the sink got of it
 pub record Flow : Type 0 where
   -- how many bytes the text so far has
   pub laid : ℕ

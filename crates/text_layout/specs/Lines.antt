@@ -80,14 +80,17 @@ no_space_between c.TypeName c.Less = true
 no_space_between c.AttrName c.Less = true
 no_space_between _ _ = false
 
+-- the class is that of words
 abbrev pub is_word : Class → Bool
 is_word c.Word = true
 is_word _ = false
 
+-- the class is that of blocks' names
 abbrev pub is_block_name : Class → Bool
 is_block_name c.BlockName = true
 is_block_name _ = false
 
+-- the class is that of `:`
 abbrev pub is_colon : Class → Bool
 is_colon c.Colon = true
 is_colon _ = false
@@ -111,6 +114,7 @@ stays_apart a b = nat_eq (front (a ++ b)).1 (length a)
 
 -- ---- the bytes of a mark
 
+-- so many spaces
 abbrev pub spaces : ℕ → Text
 spaces n = replicate n space
 
@@ -130,6 +134,7 @@ gap_by gap.Empty indent (Some row) b text =
     if stays_apart row.text text then [] else plain_gap row b
 gap_by gap.Newline indent (Some row) b text = line_feed ∷ spaces (indent + 2)
 
+-- the bytes before a token of the class b and this text, where the line stands
 abbrev pub gap_before : Line → Class → Text → Text
 gap_before line b text = gap_by line.gap line.indent line.row b text
 
@@ -138,6 +143,7 @@ abbrev pub line_end : Option Row → Text
 line_end None = []
 line_end (Some row) = line_feed ∷ []
 
+-- The bytes that a mark adds: those before a token and its text, the end of the line, or none.
 abbrev pub bytes_of : Line → Mark → Text
 bytes_of line (token class text) = gap_before line class text ++ text
 bytes_of line (ask asked) = []
@@ -151,6 +157,8 @@ first_of asked None class = class
 first_of gap.Newline (Some row) class = class
 first_of _ (Some row) class = row.first
 
+-- Where the line stands behind a mark. A break sets the indent of a new line, and each token and each break
+-- drops what was asked of the gap.
 abbrev pub line_after : Line → Mark → Line
 line_after line (token class text) = record {
   indent = line.indent;
@@ -160,6 +168,7 @@ line_after line (token class text) = record {
 line_after line (ask asked) = record line { gap = asked }
 line_after line (break_line indent) = record { indent = indent; row = None; gap = gap.Plain }
 
+-- where the line stands behind marks
 abbrev pub line_behind : Line → List Mark → Line
 line_behind line [] = line
 line_behind line (mark ∷ marks) = line_behind (line_after line mark) marks

@@ -17,6 +17,7 @@ use Rattle.text_layout.specs.declared.error.PrintError.TheVariants.{WriteFault, 
 use Rattle.text_layout.specs.Flow.{Flow, Adds, Stops, Drains}
 use Rattle.text_layout.specs.Lines.{Mark, Line, first_line, line_end, line_behind, text_of}
 
+-- a layout and its sink at one moment
 pub record Moment : Type 0 where
   -- where the present line stands
   pub line : Line

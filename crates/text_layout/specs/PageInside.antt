@@ -19,6 +19,7 @@ abbrev pub row_of : Option Ends → Text → Option Row
 row_of None text = None
 row_of (Some ends) text = Some (record { first = ends.first; last = ends.last; text = text })
 
+-- the page that the fields stand for
 abbrev pub page_of : Inside → Page
 page_of p = record {
   line = record { indent = p.indent; row = row_of p.ends p.spelling.items; gap = p.gap };
@@ -36,6 +37,7 @@ abbrev pub IsRow : Option Ends → Text → Output → Type 0
 IsRow None text out = Unit {0}
 IsRow (Some ends) text out = Spells ends.last text × (length text ≤ TEXT_LIMIT) × HasRoom out
 
+-- The indent is within its limit, the text within its own, and the row is as `IsRow` says.
 pub record IsPage (p : Inside) : Type 0 where
   pub indent : p.indent ≤ INDENT_LIMIT
   pub within : p.output.laid ≤ TEXT_LIMIT
