@@ -4,7 +4,18 @@
 -- line; then the file is read, and may be missing or too long; then its bytes are judged.
 --
 --   Answer                   a status, with what standard output and standard error get
+--   done                     the answer that all is well, with nothing to write
+--   usage, usage_line        the answer with the usage line, and that line
+--   read_fault name          the answer for a file that isn't there or can't be read
+--   input_limit name         the answer for a file that is too long
+--   name_line title name     the line of these two: a title and a name
+--   refused name place code  the answer for a refused file
+--   place_at src place       the line and the column of a place of a text
+--   Judged name src a        the bytes of a file are to be answered by a
+--   Checked name found a     a file, which may not be there, is to be answered by a
 --   Obeys files command a    the command over these files is to be answered by a
+--   NamedBy command name     the command names this file
+--   FaultsAt command a       a is a read fault of a file that the command names
 --   MayAnswer files failed command a
 --                            the same, or, where reading failed by itself, a read fault of a file
 --                            that the command names

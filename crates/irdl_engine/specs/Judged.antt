@@ -1,7 +1,10 @@
 -- What the bytes of a definition file are judged to be: a definition file, or refused at a place.
 --
---   SpellsFile src defs             the tokens of src are this definition file, whatever its names
+--   rule_of syntax              the rule that a refused token breaks
+--   SpellsFile src defs         the tokens of src are this definition file, whatever its names
 --   IsDefinition src            the tokens of src are a definition file whose names keep the rules
+--   IsSyntaxRefusal src place code, IsNameRefusal src place code
+--                               a token that no file has there, and the first fault of names
 --   IsRefusedAt src place code  at this place src breaks this rule first: its first token that no
 --                               definition file has there, or, where its tokens are a definition
 --                               file, the first fault of its names
@@ -54,5 +57,6 @@ pub record IsNameRefusal (src : Text) (place : ℕ) (code : DefCode) : Type 0 wh
   pub spells : SpellsFile src defs
   pub first : IsFirst (IsFault defs) (Some (refusal place code))
 
+-- The text is refused at this place by this rule: for a token, or for a name.
 abbrev pub IsRefusedAt : Text → ℕ → DefCode → Type 0
 IsRefusedAt src place code = IsSyntaxRefusal src place code ⊎ IsNameRefusal src place code

@@ -1,4 +1,6 @@
 -- The numbers with which the process ends.
+--
+--   status_number s  the number of a status
 use Rattle.std.specs.Prelude.{ℕ}
 use Rattle.irdl_engine.specs.declared.status.Status.{Status}
 use Rattle.irdl_engine.specs.declared.status.Status.TheVariants.{Done, DefinitionRefused, Usage}

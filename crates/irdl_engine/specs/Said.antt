@@ -4,6 +4,8 @@
 --   StandsAt src r at  the refusal r stands at this place of the text src
 --   Shows src r        the text src is refused as the refusal r says
 --   IsVerdict src v    v is the judgement of the text src
+--
+-- Inside: no public clause rests on this.
 use Rattle.std.specs.Prelude.{ℕ, ◌≡◌}
 use Rattle.std.specs.declared.option.Option.{Option}
 use Rattle.std.specs.declared.option.Option.TheVariants.{Some, None}

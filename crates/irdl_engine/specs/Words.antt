@@ -1,4 +1,7 @@
 -- The words of the command line, as texts.
+--
+--   texts words       the text of each word
+--   spelled command   the command that the code's command stands for
 use Rattle.std.specs.Prelude.{List, map}
 use denote.Ref.{Bor}
 use Rattle.ir_lexer.specs.Spelling.{Text}

@@ -1,9 +1,18 @@
 -- What a call writes for an answer.
 --
---   Change        the bytes of a sink before a call and after it, where it tells them
---   Says s t r e  the line t was written to e and the status r is s, or a write failed after a
---                 front of it
---   MayGive ..    one of the answers that may be planned was given
+--   Change, change    the bytes of a sink before a call and after it, where it tells them
+--   Got sink text     the sink got this text
+--   GotFront sink text, GotNothing sink
+--                     it got a front of this text, and nothing
+--   GivesAll a ..     the answer a was given
+--   GivesFronts a ..  a write failed, and each sink got a front of what a has for it
+--   GivesUp ..        memory ran out, and nothing was written
+--   GivesPlanned files failed command ..
+--                     an answer that may be planned was given, whole or in part
+--   MayGive files failed command ..
+--                     the same, or memory ran out
+--   Says s t r e      the line t was written to e and the status r is s, or a write failed after a
+--                     front of it
 use Rattle.std.specs.Prelude.{◌≡◌, ◌≢◌, ◌⊎◌, []}
 use Rattle.std.specs.declared.option.Option.{Option}
 use Rattle.std.specs.Io.KnownBytes.{Appends, Keeps}

@@ -6,7 +6,7 @@
 
 mod check;
 mod command;
-mod judge;
+mod definition_file;
 mod outcome;
 mod report;
 mod status;

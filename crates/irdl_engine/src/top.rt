@@ -5,6 +5,7 @@ ghost use Rattle.std.specs.Io.KnownBytes.{Keeps};
 ghost use Rattle.irdl_bytes.specs.Outside.{Rose, FaultsByItself};
 ghost use Rattle.irdl_engine.specs.Command.{command_of};
 ghost use Rattle.irdl_engine.specs.Answer.{Answer, Obeys, Accepted, usage};
+ghost use Rattle.irdl_engine.specs.Obeyed.{Obeyed, files_seen, sink_seen};
 ghost use Rattle.irdl_engine.specs.Words.{texts};
 ghost use Rattle.irdl_engine.specs.Writes.{MayGive, Says, change};
 
@@ -24,20 +25,10 @@ fn obey<F: Files, O: Sink, E: Sink>(
     out: &mut O,
     err: &mut E,
 ) -> Status
-    ensures planned { IfSome (F.file_map files.old) (λ m.
-        MayGive m (FaultsByItself (F.steady files.old) (F.faults files.old) (F.faults files.new))
-        (command_of (texts words.now)) result
-        (change (O.written out.old) (O.written out.new))
-        (change (E.written err.old) (E.written err.new))) }
-    ensures no_command { command_of (texts words.now) ≡ None →
-        Says usage.status usage.err result (change (E.written err.old) (E.written err.new)) }
-    ensures usage { result ≡ Status.Usage → command_of (texts words.now) ≡ None }
-    ensures read_fault { result ≡ Status.ReadFault →
-        Rose (F.faults files.old) (F.faults files.new) }
-    ensures write_fault { result ≡ Status.WriteFault →
-        Rose (O.faults out.old) (O.faults out.new) ⊎ Rose (E.faults err.old) (E.faults err.new) }
-    ensures silent { Keeps (O.written out.old) (O.written out.new) }
-    ensures untouched { O.faults out.new ≡ O.faults out.old }
+    ensures { Obeyed (command_of (texts words.now)) result
+        (files_seen F.file_map F.steady F.faults files.old files.new)
+        (sink_seen O.written O.faults out.old out.new)
+        (sink_seen E.written E.faults err.old err.new) }
 {
     match read_command(words) {
         None => report_usage(err),

@@ -1,6 +1,6 @@
 use Rattle.std.proofs.Common.{ap, Err}
 use Rattle.irdl_engine.proofs.Judging.{unreadable-as}
-use Rattle.irdl_engine.proofs.judge.judge_file.Goals as goal
+use Rattle.irdl_engine.proofs.definition_file.judge_file.Goals as goal
 
 pub returns-in-Err-ReadFault-clause-planned : goal.returns-in-Err-ReadFault-clause-planned
 returns-in-Err-ReadFault-clause-planned g c =

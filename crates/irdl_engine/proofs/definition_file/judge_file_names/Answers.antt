@@ -1,7 +1,7 @@
 use Rattle.std.proofs.Common.{refl, ap, ◌∙◌}
 use Rattle.dialect_registry.specs.Codes.{code_number}
 use Rattle.irdl_engine.proofs.Judging.{names-fail}
-use Rattle.irdl_engine.proofs.judge.judge_file_names.Goals as goal
+use Rattle.irdl_engine.proofs.definition_file.judge_file_names.Goals as goal
 
 pub returns-in-Some-of_number : goal.returns-in-Some-of_number
 returns-in-Some-of_number c =

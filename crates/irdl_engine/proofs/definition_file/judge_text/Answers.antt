@@ -2,7 +2,7 @@ use Rattle.std.proofs.Common.{◌∙◌, ap, Err, subst}
 use Rattle.irdl_engine.specs.Judged.{rule_of}
 use Rattle.irdl_engine.specs.Said.{StandsAt}
 use Rattle.irdl_engine.proofs.Judging.{told-spells, told-refused, judged-as}
-use Rattle.irdl_engine.proofs.judge.judge_text.Goals as goal
+use Rattle.irdl_engine.proofs.definition_file.judge_text.Goals as goal
 
 pub returns-in-Ok : goal.returns-in-Ok
 returns-in-Ok c = judged-as c.args.src.now c.in-Ok.defs _ c.judge_file_names.ensures
