@@ -9,7 +9,7 @@ use Rattle.attr_value.specs.Values.{Value, Values, none, more, value, list_of, d
 use Rattle.dialect_defs.specs.declared.definition.TypeDef.{TypeDef}
 use Rattle.dialect_defs.specs.Assignments.{Tests}
 use Rattle.dialect_defs.specs.Goodness.{Good, AreGoodNodes, IsGoodNode, IsDefined}
-use Rattle.dialect_defs.specs.Goodness.{depth_limit}
+use Rattle.attr_value.specs.declared.head.TheConstants.{DEPTH_LIMIT}
 use Rattle.constraint_solver.specs.Definitions.{HasGoodKids}
 
 module _ (values : List Value) (tests : Tests) (types : List TypeDef) where
@@ -25,7 +25,7 @@ module _ (values : List Value) (tests : Tests) (types : List TypeDef) where
       abbrev Node : Type 0
       Node = IsGoodNode values tests types head (list_of (kids_at values ids))
 
-      pub is-good : HasGoodKids values tests types x → depth x ≤ depth_limit → Node
+      pub is-good : HasGoodKids values tests types x → depth x ≤ DEPTH_LIMIT → Node
           → Good values tests types x
       is-good kids shallow node = record {
         shallow = shallow;

@@ -24,7 +24,9 @@ pub struct Slots {
 pub fn empty_slots() -> Slots
     ensures { (v : ℕ) → slice_index_or result.ids v None ≡ None }
 {
-    Slots { ids: [None; VARIABLE_LIMIT] }
+    Slots {
+        ids: [None; VARIABLE_LIMIT],
+    }
 }
 
 /// Gives a variable below `n` a value, unless it has another.

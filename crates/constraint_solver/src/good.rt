@@ -11,12 +11,9 @@ ghost use Rattle.constraint_solver.specs.Definitions.{IsInstanceOf};
 use crate::assign::{assign_params, empty_slots};
 use crate::search::solve_below;
 use attr_uniquer::Uniquer;
-use attr_value::{Head, Text, ValueId};
+use attr_value::{DEPTH_LIMIT, Head, Text, ValueId};
 use dialect_defs::TypeDef;
 use native_predicate::Natives;
-
-/// How deep a value may nest. A value without kids has depth 1.
-const DEPTH_LIMIT: usize = 64;
 
 /// Whether some assignment of a definition gives its parameters these kids.
 fn is_instance_of(d: &TypeDef, natives: &Natives, u: &Uniquer, kids: &[ValueId]) -> bool

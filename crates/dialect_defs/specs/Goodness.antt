@@ -6,6 +6,7 @@
 --   IsGoodNode .. head kids             a value of this head and these kids keeps to its own rules
 --   Good values tests types v           v and all values in it do, and v nests at most 64 deep
 use Rattle.std.specs.Prelude.{◌≡◌, ℕ, ◌≤◌, Bool, List, map, Contains}
+use Rattle.attr_value.specs.declared.head.TheConstants.{DEPTH_LIMIT}
 use Rattle.attr_value.specs.declared.head.Head.{Head}
 use Rattle.attr_value.specs.declared.head.Head.TheVariants as h
 use Rattle.attr_value.specs.Heads.{OwnRule}
@@ -14,10 +15,6 @@ use Rattle.dialect_defs.specs.declared.body.VarId.{VarId}
 use Rattle.dialect_defs.specs.declared.definition.TypeDef.{TypeDef}
 use Rattle.dialect_defs.specs.declared.entry.Entry.{Entry}
 use Rattle.dialect_defs.specs.Assignments.{Tests, Assignment, HaveEach, MeetsBody}
-
--- how deep a value may nest
-abbrev pub depth_limit : ℕ
-depth_limit = 64
 
 -- a definition of this kind and full name
 pub record IsDefinedAs (types : List TypeDef) (is_type : Bool) (name : List ℕ) (d : TypeDef)
@@ -61,6 +58,6 @@ AreGoodNodes values tests types (more head kids rest) =
 -- a value that keeps to all rules
 pub record Good (values : List Value) (tests : Tests) (types : List TypeDef) (v : Value)
     : Type 0 where
-  pub shallow : depth v ≤ depth_limit
+  pub shallow : depth v ≤ DEPTH_LIMIT
   pub node : IsGoodNode values tests types v.head (list_of v.kids)
   pub kids : AreGoodNodes values tests types v.kids

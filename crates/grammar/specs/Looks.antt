@@ -9,6 +9,7 @@
 --   any ls t         the token passes one of these
 --   apart ps qs      no token passes one of the first and one of the second
 use Rattle.std.specs.Prelude.{ℕ, ◌+◌, ◌-◌, ◌*◌, ◌==◌, Bool, true, false, not, ◌&&◌, ◌||◌, List, [], ◌∷◌, bytes_eq, nat_le, take, drop, length, codes}
+use Rattle.attr_value.specs.declared.kind.TheConstants.{WIDTH_LIMIT}
 use Rattle.ir_lexer.specs.declared.class.Class.{Class}
 use Rattle.ir_lexer.specs.declared.class.Class.TheVariants.{Word}
 use Rattle.ir_lexer.specs.Classes.{same_class}
@@ -30,11 +31,11 @@ abbrev pub decimal : ℕ → Text → ℕ
 decimal n [] = n
 decimal n (b ∷ t) = decimal (n * 10 + (b - 48)) t
 
--- digits that spell, behind a number, one that is at most 16777215
+-- digits that spell, behind a number, one that is no greater than the greatest width
 abbrev pub spells_width : ℕ → Text → Bool
-spells_width n t = all_digits t && nat_le (decimal n t) 16777215
+spells_width n t = all_digits t && nat_le (decimal n t) WIDTH_LIMIT
 
--- digits without a leading zero that spell a number from 1 to 16777215
+-- digits without a leading zero that spell a number from 1 to the greatest width
 abbrev pub is_width : Text → Bool
 is_width [] = false
 is_width (b ∷ t) = not (b == 48) && spells_width 0 (b ∷ t)

@@ -3,10 +3,9 @@
 ghost use Rattle.std.specs.Prelude.{◌≡◌};
 ghost use Rattle.grammar.specs.Looks as spec;
 
-/// The greatest width of an integer type, in bits.
-const WIDTH_LIMIT: u32 = 16_777_215;
+use attr_value::WIDTH_LIMIT;
 
-/// Whether a word is `iN`, `siN` or `uiN` with N from 1 to 16777215, without a leading zero.
+/// Whether a word is `iN`, `siN` or `uiN` with N from 1 to [`WIDTH_LIMIT`], without a leading zero.
 pub fn is_integer_word(word: &[u8]) -> bool
     ensures { result ≡ spec.is_integer_word word.now }
 {

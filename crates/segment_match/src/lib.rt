@@ -111,7 +111,11 @@ fn read_given(given: &[i64]) -> Option<ArrayVec<usize, ENTRY_LIMIT>>
 /// The sizes of the segments of `count` values, one for each entry; `None` where there are none.
 /// There is never more than one such list. Where two or more entries aren't single, it is the
 /// given one; else `given` isn't looked at. It takes no memory.
-pub fn sizes(entries: &[Entry], count: usize, given: Option<&[i64]>) -> Option<ArrayVec<usize, ENTRY_LIMIT>>
+pub fn sizes(
+    entries: &[Entry],
+    count: usize,
+    given: Option<&[i64]>,
+) -> Option<ArrayVec<usize, ENTRY_LIMIT>>
     requires { length entries.now ≤ ENTRY_LIMIT }
     ensures some { IfSome result (λ s.
         Segments entries.now count (option_copied given.entry) s.items) }

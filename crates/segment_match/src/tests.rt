@@ -47,8 +47,18 @@ const ROWS: &[Row] = &[
     // sizes that are 2 to the power of 64 in all
     (&[V, V, V], 0, Some(&[i64::MAX, i64::MAX, 2]), None),
     // as many entries as there may be
-    (&[S; ENTRY_LIMIT], ENTRY_LIMIT, None, Some(&[1; ENTRY_LIMIT])),
-    (&[V; ENTRY_LIMIT], ENTRY_LIMIT, Some(&[1; ENTRY_LIMIT]), Some(&[1; ENTRY_LIMIT])),
+    (
+        &[S; ENTRY_LIMIT],
+        ENTRY_LIMIT,
+        None,
+        Some(&[1; ENTRY_LIMIT]),
+    ),
+    (
+        &[V; ENTRY_LIMIT],
+        ENTRY_LIMIT,
+        Some(&[1; ENTRY_LIMIT]),
+        Some(&[1; ENTRY_LIMIT]),
+    ),
 ];
 
 fn entries(alloc: Global, arities: &[Arity]) -> Result<List<Entry>, AllocError> {
