@@ -65,10 +65,14 @@ fn texts_and_lists_are_equal_by_their_items(rt: HostRuntime) -> Result<(), Fail>
         (b"ab", b"abc", false),
         (b"ab", b"aB", false),
         (b"\x00\xff", b"\x00\xff", true),
+        (b"fourteen bytes", b"fourteen bytes", true),
+        (b"fourteen bytes", b"fourteen bytes.", false),
+        (b"fifteen bytes..", b"fifteen bytes..", true),
+        (b"fifteen bytes..", b"fifteen bytes.,", false),
     ] {
         let texts = (
             Text::from_slice(rt.alloc(), a)?,
-            Text::from_slice(rt.alloc(), b)?,
+            Text::from_vec(rt.alloc(), Vec::from_slice(rt.alloc(), b)?)?,
         );
         assert_eq!(rt; texts.0.bytes(), a);
         assert_eq!(rt; texts.0 == texts.1, same);

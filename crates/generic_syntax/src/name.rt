@@ -22,7 +22,7 @@ pub fn read_name<T: TokenSource>(
     ensures { Took (passes (any_of kind)) name_of (T.state t.old) result (T.state t.new) }
 {
     let place = t.place();
-    let name = Text::from_vec(name_bytes(alloc, t.text())?);
+    let name = Text::from_vec(alloc, name_bytes(alloc, t.text())?)?;
     expect(t, kind)?;
     Ok(NameCst { place, name })
 }

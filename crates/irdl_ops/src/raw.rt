@@ -69,8 +69,8 @@ pub struct RawText {
 #[derive(Drop)]
 pub struct RawEntry {
     pub place: u32,
-    pub name: Option<NameCst>,
     pub arity: Arity,
+    pub name: Option<NameCst>,
     pub var: NameCst,
 }
 
