@@ -260,8 +260,7 @@ fn texts(alloc: Global, names: &[&[u8]]) -> Result<List<Text>, AllocError> {
 }
 
 #[test]
-fn a_head_keeps_to_its_rule(rt: HostRuntime) -> Result<(), Fail> {
-    let alloc = rt.alloc();
+fn a_width_goes_from_1_to_its_limit(rt: HostRuntime) {
     for (width, want) in [
         (0, false),
         (1, true),
@@ -270,32 +269,56 @@ fn a_head_keeps_to_its_rule(rt: HostRuntime) -> Result<(), Fail> {
     ] {
         assert_eq!(rt; Head::Int(IntKind::Signed(width)).is_right(), want);
     }
+}
+
+#[test]
+fn a_number_is_right_as_it_is_kept(rt: HostRuntime) {
     for (n, want) in [(-129, false), (-128, true), (127, true), (255, false)] {
         let kind = IntKind::Signless(8);
         assert_eq!(rt; Head::Number { kind, n }.is_right(), want);
     }
+}
+
+#[test]
+fn a_vector_knows_its_dimensions(rt: HostRuntime) -> Result<(), Fail> {
     for (kind, dim, want) in [
         (ShapeKind::Vector, Dim::Known(0), false),
         (ShapeKind::Vector, Dim::Known(1), true),
         (ShapeKind::Vector, Dim::Unknown, false),
         (ShapeKind::Tensor, Dim::Unknown, true),
     ] {
-        let dims = List::from_slice(alloc, &[dim])?;
+        let dims = List::from_slice(rt.alloc(), &[dim])?;
         assert_eq!(rt; Head::Shaped { kind, dims }.is_right(), want);
     }
+    Ok(())
+}
+
+#[test]
+fn an_item_fits_its_width(rt: HostRuntime) -> Result<(), Fail> {
     for (width, item, want) in [(8, 127, true), (8, 128, false), (7, 0, false)] {
-        let items = List::from_slice(alloc, &[item])?;
+        let items = List::from_slice(rt.alloc(), &[item])?;
         assert_eq!(rt; Head::Dense { width, items }.is_right(), want);
     }
+    Ok(())
+}
+
+// A list of two texts.
+fn two(alloc: Global, first: &[u8], second: &[u8]) -> Result<List<Text>, AllocError> {
+    let mut texts = List::new(alloc);
+    texts.push(Text::from_slice(alloc, first)?)?;
+    texts.push(Text::from_slice(alloc, second)?)?;
+    Ok(texts)
+}
+
+#[test]
+fn keys_ascend(rt: HostRuntime) -> Result<(), Fail> {
     for (first, second, want) in [
         (b"a".as_slice(), b"ab".as_slice(), true),
         (b"a", b"a", false),
         (b"b", b"ab", false),
     ] {
-        let keys = texts(alloc, &[first, second])?;
+        let keys = two(rt.alloc(), first, second)?;
         assert_eq!(rt; Head::Dict { keys }.is_right(), want);
     }
-    let parts = texts(alloc, &[])?;
-    assert!(rt; !Head::Symbol { parts }.is_right() && Head::Unit.is_right());
     Ok(())
 }
