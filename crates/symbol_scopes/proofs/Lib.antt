@@ -1,0 +1,10 @@
+pub mod Lists
+pub mod Finds
+pub mod Turns
+pub mod Listing
+pub mod Walks
+pub mod Judging
+pub mod KnownAliases
+pub mod Noting
+pub mod Finishing
+pub mod Regions

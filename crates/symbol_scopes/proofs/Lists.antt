@@ -1,0 +1,189 @@
+-- What stands at a place of a list, after a push or a write.
+use Rattle.std.proofs.Common.{◌≡◌, ◌≢◌, ℕ, zero, suc, ◌+◌, ◌<◌, ◌≤◌, ◌⊎◌, inl, inr, Bool, true, false, List, [], ◌∷◌, ◌++◌, length, get_or, set, drop, take, map, replicate, refl, ap, sym, ◌∙◌, subst, arith, slice_get, bytes_eq, if◌then◌else◌, not, cond, nat_lt}
+use Rattle.std.specs.List.{AllByRecursion, position_or_len, position, IsDistinct}
+use Rattle.std.specs.Cmp.Lexicographic.{pointwise}
+use Rattle.std.proofs.Common.{Vec, nat_eq}
+use Rattle.std.proofs.lemmas.Bool.Decides.{nat_tests}
+use Rattle.std.proofs.lemmas.Slice.Eq.{bytes_eq-Decides}
+use Rattle.std.proofs.lemmas.Option.{slice_get-get_or}
+use Rattle.std.proofs.lemmas.List.Sums.{prefix_len_stops}
+use Rattle.std.specs.declared.option.Option.{Option}
+use Rattle.std.specs.declared.option.Option.TheVariants.{Some, None}
+use Rattle.symbol_scopes.specs.ScopeMarks.{Name}
+use Rattle.symbol_scopes.specs.Slots.{AreDistinctNames}
+
+module _ {A : Type 0} where
+  pub get-front : (xs ys : List A) (i : ℕ) (x : A) → slice_get xs i ≡ Some x
+      → slice_get (xs ++ ys) i ≡ Some x
+  get-front [] ys i x e = absurd (cc)
+  get-front (y ∷ xs) ys zero x e = e
+  get-front (y ∷ xs) ys (suc i) x e = get-front xs ys i x e
+
+  pub get-seam : (xs : List A) (y : A) → slice_get (xs ++ y ∷ []) (length xs) ≡ Some y
+  get-seam [] y = refl
+  get-seam (x ∷ xs) y = get-seam xs y
+
+  -- what a push leaves is what was there, or what was pushed
+  pub get-push : (xs : List A) (y : A) (i : ℕ) (x : A) → slice_get (xs ++ y ∷ []) i ≡ Some x
+      → (slice_get xs i ≡ Some x) ⊎ ((i ≡ length xs) × (y ≡ x))
+  get-push [] y zero x e = inr (refl, cc)
+  get-push [] y (suc i) x e = absurd (cc)
+  get-push (z ∷ xs) y zero x e = inl e
+  get-push (z ∷ xs) y (suc i) x e = elim (get-push xs y i x e) [
+    | inl h ↦ inl h
+    | inr h ↦ inr (ap suc h.0, h.1)
+  ]
+
+  pub get-before : (xs ys : List A) (i : ℕ) → i < length xs
+      → slice_get (xs ++ ys) i ≡ slice_get xs i
+  get-before [] ys i less = absurd (omega arith)
+  get-before (x ∷ xs) ys zero less = refl
+  get-before (x ∷ xs) ys (suc i) less = get-before xs ys i (omega arith)
+
+  pub get-written : (xs : List A) (i : ℕ) (y : A) → i < length xs
+      → slice_get (set xs i y) i ≡ Some y
+  get-written [] i y less = absurd (omega arith)
+  get-written (x ∷ xs) zero y less = refl
+  get-written (x ∷ xs) (suc i) y less = get-written xs i y (omega arith)
+
+  pub get-unwritten : (xs : List A) (i j : ℕ) (y : A) → (i ≡ j → ⊥)
+      → slice_get (set xs i y) j ≡ slice_get xs j
+  get-unwritten [] i j y differ = refl
+  get-unwritten (x ∷ xs) zero zero y differ = absurd (differ refl)
+  get-unwritten (x ∷ xs) zero (suc j) y differ = refl
+  get-unwritten (x ∷ xs) (suc i) zero y differ = refl
+  get-unwritten (x ∷ xs) (suc i) (suc j) y differ =
+      get-unwritten xs i j y (λ e. differ (ap suc e))
+
+  -- what is left from a place on begins with what stands there
+  pub drop-here : (xs : List A) (i : ℕ) (x : A) → slice_get xs i ≡ Some x
+      → drop i xs ≡ x ∷ drop (suc i) xs
+  drop-here [] i x e = absurd (cc)
+  drop-here (y ∷ xs) zero x e = let h : y ≡ x = cc in ap (λ z. z ∷ xs) h
+  drop-here (y ∷ xs) (suc i) x e = drop-here xs i x e
+
+  pub get-middle : (xs ys : List A) (x : A) → slice_get (xs ++ x ∷ ys) (length xs) ≡ Some x
+  get-middle [] ys x = refl
+  get-middle (z ∷ xs) ys x = get-middle xs ys x
+
+  pub take-front : (xs ys : List A) → take (length xs) (xs ++ ys) ≡ xs
+  take-front [] ys = refl
+  take-front (x ∷ xs) ys = ap (λ l. x ∷ l) (take-front xs ys)
+
+  pub drop-past : (xs : List A) (i : ℕ) → slice_get xs i ≡ None → drop i xs ≡ []
+  drop-past [] zero e = refl
+  drop-past [] (suc i) e = refl
+  drop-past (y ∷ xs) zero e = absurd (cc)
+  drop-past (y ∷ xs) (suc i) e = drop-past xs i e
+
+-- ---- names, each once
+
+pub same-name : (a b : Name) → bytes_eq a b ≡ true → a ≡ b
+same-name a b = (bytes_eq-Decides a b).0
+
+pub name-itself : (a : Name) → bytes_eq a a ≡ true
+name-itself a = (bytes_eq-Decides a a).1 refl
+
+pub flipped : (a b : Name) → bytes_eq a b ≡ false → bytes_eq b a ≡ false
+flipped a b e = by (bytes_eq b a) refl
+  where
+    by : (r : Bool) → bytes_eq b a ≡ r → r ≡ false
+    by true h = absurd (let s = same-name b a h in let k : bytes_eq a b ≡ true = (bytes_eq-Decides a b).1 (sym s) in cc)
+    by false h = refl
+
+-- a name is apart from those behind it
+apart-at : (x : Name) (ns : List Name) (n : ℕ) (name : Name)
+    → AllByRecursion (λ y. bytes_eq x y ≡ false) ns → slice_get ns n ≡ Some name
+    → bytes_eq x name ≡ false
+apart-at x [] n name all e = absurd (cc)
+apart-at x (y ∷ ns) zero name all e = let h : y ≡ name = cc in subst (λ z. bytes_eq x z ≡ false) h all.0
+apart-at x (y ∷ ns) (suc n) name all e = apart-at x ns n name all.1 e
+
+-- a write at the number of a name changes what stands for that name alone
+pub set-map : {C : Type 0} (f : Name → C) (v : C) (ns : List Name) (n : ℕ) (name : Name)
+    → AreDistinctNames ns → slice_get ns n ≡ Some name
+    → set (map f ns) n v ≡ map (λ x. if bytes_eq name x then v else f x) ns
+set-map f v [] n name distinct e = absurd (cc)
+set-map {C} f v (y ∷ ns) zero name distinct e =
+    let h : y ≡ name = cc in
+    let first : v ≡ (if bytes_eq name y then v else f y) =
+    subst (λ z. v ≡ (if bytes_eq z y then v else f y)) h
+    (ap (λ b. if b then v else f y) (sym (name-itself y))) in
+    let rest : map f ns ≡ map (λ x. if bytes_eq name x then v else f x) ns =
+    subst (λ (z : Name). map f ns ≡ map (λ x. if bytes_eq z x then v else f x) ns) h
+    (others y ns distinct.0) in
+    λ i. first i ∷ rest i
+  where
+    others : (y : Name) (ns : List Name) → AllByRecursion (λ z. bytes_eq y z ≡ false) ns
+        → map f ns ≡ map (λ x. if bytes_eq y x then v else f x) ns
+    others y [] all = refl
+    others y (x ∷ ns) all =
+        let first : f x ≡ (if bytes_eq y x then v else f x) =
+        ap (λ b. if b then v else f x) (sym all.0) in
+        let rest = others y ns all.1 in
+        λ i. first i ∷ rest i
+set-map f v (y ∷ ns) (suc n) name distinct e =
+    let unlike : bytes_eq name y ≡ false = flipped y name (apart-at y ns n name distinct.0 e) in
+    let first : f y ≡ (if bytes_eq name y then v else f y) =
+    ap (λ b. if b then v else f y) (sym unlike) in
+    let rest = set-map f v ns n name distinct.1 e in
+    λ i. first i ∷ rest i
+
+-- the same for each name is the same list
+pub map-same : {C : Type 0} (f g : Name → C) (ns : List Name) → ((x : Name) → f x ≡ g x)
+    → map f ns ≡ map g ns
+map-same f g ns e = λ i. map (λ x. e x i) ns
+
+pub map-one : {C : Type 0} (c : C) (ns : List Name) → replicate (length ns) c ≡ map (λ x. c) ns
+map-one c [] = refl
+map-one c (x ∷ ns) = ap (λ l. c ∷ l) (map-one c ns)
+
+pub get-map : {A C : Type 0} (f : A → C) (ns : List A) (n : ℕ) (name : A)
+    → slice_get ns n ≡ Some name → slice_get (map f ns) n ≡ Some (f name)
+get-map f [] n name e = absurd (cc)
+get-map f (x ∷ ns) zero name e = let h : x ≡ name = cc in ap (λ z. Some (f z)) h
+get-map f (x ∷ ns) (suc n) name e = get-map f ns n name e
+
+pub get-unmap : {A C : Type 0} (f : A → C) (ns : List A) (n : ℕ) (y : C)
+    → slice_get (map f ns) n ≡ Some y → (x : A) × (slice_get ns n ≡ Some x) × (f x ≡ y)
+get-unmap f [] n y e = absurd (cc)
+get-unmap f (x ∷ ns) zero y e = (x, refl, cc)
+get-unmap f (x ∷ ns) (suc n) y e = get-unmap f ns n y e
+
+-- ---- what an index says of its name
+
+pub position-there : {A : Type 0} (p : A → Bool) (xs : List A) (n : ℕ) → Some n ≡ position p xs
+    → (x : A) × (slice_get xs n ≡ Some x) × (p x ≡ true)
+position-there p [] n e = absurd (cc)
+position-there {A} p (x ∷ xs) n e =
+    by (nat_lt (position_or_len p (x ∷ xs)) (length (x ∷ xs))) refl e
+  where
+    passes : (b : Bool) → not b ≡ false → b ≡ true
+    passes true e = refl
+    passes false e = absurd (cc)
+
+    by : (b : Bool) → nat_lt (position_or_len p (x ∷ xs)) (length (x ∷ xs)) ≡ b
+        → Some n ≡ cond b (Some (position_or_len p (x ∷ xs))) None
+        → (y : A) × (slice_get (x ∷ xs) n ≡ Some y) × (p y ≡ true)
+    by true b e =
+        let at : n ≡ position_or_len p (x ∷ xs) = cc in
+        let less : position_or_len p (x ∷ xs) < length (x ∷ xs) = grind (arith, nat_tests) in
+        let stops = prefix_len_stops (λ y. not (p y)) (x ∷ xs) x less in (
+          get_or (x ∷ xs) n x,
+          slice_get-get_or (x ∷ xs) n x (omega arith),
+          ap (λ k. p (get_or (x ∷ xs) k x)) at ∙ passes _ stops,
+        )
+    by false b e = absurd (cc)
+
+-- texts that vectors hold are apart where `==` finds them so
+pub distinct-texts : {Z : Type 0} (vs : List (Vec ℕ Z))
+    → IsDistinct (λ a b. pointwise nat_eq a.items b.items) vs → AreDistinctNames (map (λ v. v.items) vs)
+unfolding IsDistinct
+distinct-texts [] d = tt
+distinct-texts (v ∷ vs) d = (heads v vs d.0, distinct-texts vs d.1)
+  where
+    heads : {Z : Type 0} (v : Vec ℕ Z) (vs : List (Vec ℕ Z))
+        → AllByRecursion (λ w. pointwise nat_eq v.items w.items ≡ false) vs
+        → AllByRecursion (λ y. bytes_eq v.items y ≡ false) (map (λ w. w.items) vs)
+    heads v [] all = tt
+    heads v (w ∷ vs) all = (all.0, heads v vs all.1)

@@ -1,0 +1,101 @@
+-- One mark more, and the passed that stands for it.
+use Rattle.std.proofs.Common.{◌≡◌, ℕ, zero, suc, ◌+◌, ◌<◌, ◌≤◌, ◌⊎◌, inl, inr, List, [], ◌∷◌, ◌++◌, length, take, get_or, map, refl, ap, sym, ◌∙◌, subst, arith, slice_get, append_assoc, append-nil, length-append}
+use Rattle.std.proofs.lemmas.List.{map-append, take_more, length-map, take-map, take_all}
+use Rattle.std.proofs.lemmas.Option.{get_or_from_slice_get, slice_get_within, slice_get_read, slice_get-get_or}
+use Rattle.std.specs.List.{AllByRecursion}
+use Rattle.std.specs.declared.option.Option.{Option}
+use Rattle.std.specs.declared.option.Option.TheVariants.{Some, None}
+use Rattle.symbol_scopes.specs.declared.call.Call.{Call}
+use Rattle.symbol_scopes.specs.declared.call.Call.TheVariants.{Enter}
+use Rattle.symbol_scopes.specs.ScopeMarks.{Name, ScopeMark, Standing, passed, after, along, top, standing, Binding, own, outside, bindings, bindings_of}
+use Rattle.symbol_scopes.specs.ScopeMarks.{enters, leaves, defines, uses, labels, leads_to, bad_pack, defines_alias, mentions_alias}
+use Rattle.symbol_scopes.specs.Calls.{mark_of, marks_of, IsNamed, AreNamed}
+use Rattle.symbol_scopes.specs.Slots.{Descend}
+use Rattle.symbol_scopes.proofs.Lists.{get-map}
+
+pub after-more : (s : Standing) (ms : List ScopeMark) (m : ScopeMark)
+    → after s (ms ++ m ∷ []) ≡ passed (after s ms) m
+after-more s [] m = refl
+after-more s (x ∷ ms) m = after-more (passed s x) ms m
+
+pub along-more : {A : Type 0} (f : List ℕ → ScopeMark → List A) (s : Standing) (ms : List ScopeMark) (m : ScopeMark)
+    → along f s (ms ++ m ∷ []) ≡ along f s ms ++ f (after s ms).round m
+along-more f s [] m = append-nil (f s.round m)
+along-more f s (x ∷ ms) m =
+    ap (λ l. f s.round x ++ l) (along-more f (passed s x) ms m)
+    ∙ sym (append_assoc (f s.round x) (along f (passed s x) ms) (f (after (passed s x) ms).round m))
+
+-- the marks so far, with one more
+pub record Further (ms : List ScopeMark) (i : ℕ) (m : ScopeMark) : Type 0 where
+  pub there : slice_get ms i ≡ Some m
+  pub longer : take (i + 1) ms ≡ take i ms ++ m ∷ []
+  pub stands : standing (take (i + 1) ms) ≡ passed (standing (take i ms)) m
+
+pub further : (ms : List ScopeMark) (i : ℕ) (m : ScopeMark) → slice_get ms i ≡ Some m → Further ms i m
+further ms i m e = record {
+  there = e;
+  longer = longer;
+  stands = ap (after top) longer ∙ after-more top (take i ms) m;
+}
+  where
+    longer : take (i + 1) ms ≡ take i ms ++ m ∷ []
+    longer = take_more ms i m (slice_get_within ms i m e)
+        ∙ ap (λ x. take i ms ++ x ∷ []) (get_or_from_slice_get ms i m m e)
+
+pub further-along : {A : Type 0} (f : List ℕ → ScopeMark → List A) (ms : List ScopeMark) (i : ℕ) (m : ScopeMark)
+    → Further ms i m
+    → along f top (take (i + 1) ms) ≡ along f top (take i ms) ++ f (standing (take i ms)).round m
+further-along f ms i m x = ap (along f top) x.longer ∙ along-more f top (take i ms) m
+
+-- the passed that a loop is at
+abbrev pub call_at : List Call → ℕ → Call
+call_at calls i = get_or calls i Enter
+
+pub at-step : (ns : List Name) (calls : List Call) (i : ℕ) → i < length calls
+    → Further (marks_of ns calls) i (mark_of ns (call_at calls i))
+at-step ns calls i less =
+    further (marks_of ns calls) i (mark_of ns (call_at calls i))
+    (get-map (mark_of ns) calls i (call_at calls i) (slice_get-get_or calls i Enter less))
+
+pub named-at : (n : ℕ) (calls : List Call) (i : ℕ) → AreNamed n calls → i < length calls
+    → IsNamed n (call_at calls i)
+named-at n calls i named less = at n calls i (call_at calls i) named (slice_get-get_or calls i Enter less)
+  where
+    at : (n : ℕ) (calls : List Call) (i : ℕ) (x : Call) → AreNamed n calls
+        → slice_get calls i ≡ Some x → IsNamed n x
+    at n [] i x named e = absurd (cc)
+    at n (y ∷ calls) zero x named e = let h : y ≡ x = cc in subst (IsNamed n) h named.0
+    at n (y ∷ calls) (suc i) x named e = at n calls i x named.1 e
+
+-- no more regions are entered than there are marks
+pub entered-most : (s : Standing) (ms : List ScopeMark) → (after s ms).entered ≤ s.entered + length ms
+entered-most s [] = omega arith
+entered-most s (m ∷ ms) =
+    let rest = entered-most (passed s m) ms in
+    let one = step-most s m in
+    omega arith
+  where
+    step-most : (s : Standing) (m : ScopeMark) → (passed s m).entered ≤ s.entered + 1
+    step-most s enters = omega arith
+    step-most s leaves = omega arith
+    step-most s (defines d) = omega arith
+    step-most s (uses u) = omega arith
+    step-most s (labels l) = omega arith
+    step-most s (leads_to t) = omega arith
+    step-most s (bad_pack p) = omega arith
+    step-most s (defines_alias a) = omega arith
+    step-most s (mentions_alias a) = omega arith
+
+pub own-below : (n : ℕ) (round : List ℕ) → 0 < length round → Descend n round → own round < n
+own-below n [] more h = absurd (omega arith)
+own-below n (r ∷ round) more h = h.0
+
+pub take-whole : {A : Type 0} (xs : List A) (i : ℕ) → i ≤ length xs → length xs ≤ i → take i xs ≡ xs
+take-whole xs i most least = take_all i xs least
+
+-- at the end of a loop, the marks gone over are all of them
+pub marks-whole : (ns : List Name) (calls : List Call) (i : ℕ) → length calls ≤ i
+    → take i (marks_of ns calls) ≡ marks_of ns calls
+marks-whole ns calls i least =
+    let same = length-map calls (mark_of ns) in
+    take_all i (marks_of ns calls) (omega arith)

@@ -1,0 +1,11 @@
+use Rattle.symbol_scopes.proofs.Regions.{values-by-regions, blocks-by-regions, faults-by-regions}
+use Rattle.symbol_scopes.proofs.laws.by_regions.Goals as goal
+
+pub returns-clause-values : goal.returns-clause-values
+returns-clause-values c = values-by-regions
+
+pub returns-clause-blocks : goal.returns-clause-blocks
+returns-clause-blocks c = blocks-by-regions
+
+pub returns-clause-faults : goal.returns-clause-faults
+returns-clause-faults c = faults-by-regions

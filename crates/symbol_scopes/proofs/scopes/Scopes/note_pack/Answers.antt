@@ -1,0 +1,12 @@
+use Rattle.std.proofs.Common.{◌≡◌, ℕ, ◌+◌, ◌<◌, ◌≤◌, ◌++◌, ◌∷◌, [], length, inl, refl, ap, sym, ◌∙◌, subst, arith}
+use Rattle.std.proofs.lemmas.Option.{get_or_from_slice_get, slice_get_within}
+use Rattle.symbol_scopes.specs.ScopeMarks as mark
+use Rattle.symbol_scopes.specs.declared.call.Call.TheVariants as s
+use Rattle.symbol_scopes.proofs.Noting.{on-err, same-marks, same-kept, more-marks, more-kept, counts-small}
+use Rattle.symbol_scopes.proofs.scopes.Scopes.note_pack.Goals as goal
+
+pub invariant_of-self-2 : goal.invariant_of-self-2
+invariant_of-self-2 c =
+    more-kept c.self.inside.names c.self.inside.names [] c.self.inside.calls.items c.self.inside.definitions c.self.inside.uses c.self.inside.successors
+    (inl refl) c.self.invariant c.push.new.self.items (s.BadPack c.args.place) _ _ _ c.in_ok-push.ensures.items tt
+    (λ r. omega arith) (omega arith) (omega arith)

@@ -1,0 +1,10 @@
+pub mod ScopeMarks
+pub mod Meanings
+pub mod Faults
+pub mod Uses
+pub mod NameRefusal
+pub mod Regions
+pub mod Calls
+pub mod Listed
+pub mod Slots
+pub mod Aliases

@@ -1,0 +1,266 @@
+//! What a caller notes of names, and what they mean.
+
+ghost use Rattle.std.specs.Prelude.{◌≡◌, ◌++◌, ◌∷◌, [], IfOk, OnOk, OnErr, IfErr, length, map, slice_get, None, Some};
+ghost use Rattle.first_fault.specs.Firsts.{IsFirst};
+ghost use Rattle.symbol_scopes.specs.Faults.{IsNameFault};
+ghost use Rattle.symbol_scopes.specs.ScopeMarks as mark;
+ghost use Rattle.symbol_scopes.specs.ScopeMarks.{bindings, uses_in, successors_in};
+ghost use Rattle.symbol_scopes.specs.Meanings.{value_meanings, block_meanings};
+ghost use Rattle.symbol_scopes.specs.NameRefusal.{RefusesNames};
+ghost use Rattle.symbol_scopes.specs.declared.call.NameKind.TheVariants as kind;
+ghost use Rattle.first_fault.specs.declared.fault.Fault.{Fault};
+
+use crate::aliases::judge_aliases;
+use crate::blocks::judge_blocks;
+use crate::call::Call;
+use crate::names::Names;
+use crate::values::judge_values;
+use first_fault::earlier;
+use std::alloc::{AllocError, Global};
+use std::marker::Model;
+
+/// Why `finish` gives no meanings.
+#[derive(Clone, Copy, Debug, PartialEq, Eq)]
+pub enum NameStop {
+    /// A rule on names is broken, as by a use of `%y` where no region round it defines `%y`. The
+    /// place is one that the caller gave with the name, and the code is that of the rule.
+    Refused { place: u32, code: u32 },
+    /// Memory ran out.
+    OutOfMemory,
+}
+
+/// What a text says of names. Contracts see the list of its marks.
+#[derive(Drop)]
+pub struct Scopes {
+    names: Names,
+    calls: Vec<Call>,
+    definitions: usize,
+    uses: usize,
+    successors: usize,
+    alloc: Global,
+}
+
+impl Model for Scopes {
+    ghost use Rattle.std.specs.Prelude.{List, length, ◌≡◌};
+    ghost use Rattle.symbol_scopes.specs.declared.call.NameKind.TheVariants.{Values};
+    ghost use Rattle.symbol_scopes.specs.ScopeMarks.{ScopeMark, bindings, uses_in, successors_in};
+    ghost use Rattle.symbol_scopes.specs.Calls.{marks_of, AreNamed};
+
+    ghost Value = { List ScopeMark };
+
+    ghost view = { λ s. marks_of s.names s.calls.items };
+
+    ghost invariant = { λ s. AreNamed (length s.names) s.calls.items
+        × (s.definitions ≡ length (bindings Values (marks_of s.names s.calls.items)))
+        × (s.uses ≡ length (uses_in (marks_of s.names s.calls.items)))
+        × (s.successors ≡ length (successors_in (marks_of s.names s.calls.items))) };
+}
+
+/// What uses and successors mean.
+#[derive(Drop)]
+pub struct Uses {
+    values: Vec<(usize, u32)>,
+    blocks: Vec<usize>,
+}
+
+impl Model for Uses {
+    ghost use Rattle.symbol_scopes.specs.Uses.{UseMeanings};
+
+    ghost Value = { UseMeanings };
+
+    ghost view = { λ u. record { values = u.values.items; blocks = u.blocks.items } };
+}
+
+impl Uses {
+    /// The definition that a use means, and the number in its pack; `None` exactly where there is
+    /// no such use. It takes no memory.
+    pub fn value(&self, mention: usize) -> Option<(usize, u32)>
+        ensures { result ≡ slice_get self.now.values mention }
+    {
+        self.values.get(mention).copied()
+    }
+
+    /// The number of the block that a successor means; `None` exactly where there is no such
+    /// successor. It takes no memory.
+    pub fn block(&self, mention: usize) -> Option<usize>
+        ensures { result ≡ slice_get self.now.blocks mention }
+    {
+        self.blocks.get(mention).copied()
+    }
+}
+
+impl Scopes {
+    /// Nothing is noted, and the top level is open. It takes no memory.
+    pub fn new(alloc: Global) -> Scopes
+        ensures { result ≡ [] }
+    {
+        Scopes {
+            names: Names::new(alloc),
+            calls: Vec::new(alloc),
+            definitions: 0,
+            uses: 0,
+            successors: 0,
+            alloc,
+        }
+    }
+
+    /// A region begins.
+    pub fn enter(&mut self) -> Result<(), AllocError>
+        ensures ok { OnOk result (self.new ≡ self.old ++ mark.enters ∷ []) }
+        ensures err { OnErr result (self.new ≡ self.old) }
+    {
+        self.calls.push(Call::Enter)?;
+        Ok(())
+    }
+
+    /// The innermost region ends.
+    pub fn leave(&mut self) -> Result<(), AllocError>
+        ensures ok { OnOk result (self.new ≡ self.old ++ mark.leaves ∷ []) }
+        ensures err { OnErr result (self.new ≡ self.old) }
+    {
+        self.calls.push(Call::Leave)?;
+        Ok(())
+    }
+
+    /// A name is defined for a pack of `count` values, or one of a wrong size where that is 0. It
+    /// gives the definition's number, counted from 0.
+    pub fn define(&mut self, name: &[u8], place: u32, count: u32) -> Result<usize, AllocError>
+        ensures ok { OnOk result (self.new ≡ self.old
+            ++ mark.defines (record { name = name.now; place = place; count = count }) ∷ []) }
+        ensures number { IfOk result (λ d. d ≡ length (bindings kind.Values self.old)) }
+        ensures err { OnErr result (self.new ≡ self.old) }
+    {
+        let name = self.names.number(name)?;
+        self.calls.push(Call::Define { name, place, count })?;
+        let number = self.definitions;
+        self.definitions += 1;
+        Ok(number)
+    }
+
+    /// A name is used. It gives the use's number, counted from 0.
+    pub fn mention(
+        &mut self,
+        name: &[u8],
+        place: u32,
+        number: u32,
+        number_place: u32,
+    ) -> Result<usize, AllocError>
+        ensures ok { OnOk result (self.new ≡ self.old ++ mark.uses (record {
+          name = name.now;
+          place = place;
+          number = number;
+          number_place = number_place;
+        }) ∷ []) }
+        ensures number { IfOk result (λ d. d ≡ length (uses_in self.old)) }
+        ensures err { OnErr result (self.new ≡ self.old) }
+    {
+        let name = self.names.number(name)?;
+        self.calls.push(Call::Use {
+            name,
+            place,
+            number,
+            number_place,
+        })?;
+        let at = self.uses;
+        self.uses += 1;
+        Ok(at)
+    }
+
+    /// The label of a block of the innermost region.
+    pub fn define_block(&mut self, name: &[u8], place: u32, block: usize) -> Result<(), AllocError>
+        ensures ok { OnOk result (self.new ≡ self.old
+            ++ mark.labels (record { name = name.now; place = place; block = block }) ∷ []) }
+        ensures err { OnErr result (self.new ≡ self.old) }
+    {
+        let name = self.names.number(name)?;
+        self.calls.push(Call::Label { name, place, block })?;
+        Ok(())
+    }
+
+    /// A successor. It gives its number among successors, counted from 0.
+    pub fn mention_block(&mut self, name: &[u8], place: u32) -> Result<usize, AllocError>
+        ensures ok { OnOk result (self.new ≡ self.old
+            ++ mark.leads_to (record { name = name.now; place = place }) ∷ []) }
+        ensures number { IfOk result (λ d. d ≡ length (successors_in self.old)) }
+        ensures err { OnErr result (self.new ≡ self.old) }
+    {
+        let name = self.names.number(name)?;
+        self.calls.push(Call::LeadTo { name, place })?;
+        let at = self.successors;
+        self.successors += 1;
+        Ok(at)
+    }
+
+    /// An alias is defined.
+    pub fn define_alias(&mut self, is_type: bool, name: &[u8], place: u32) -> Result<(), AllocError>
+        ensures ok { OnOk result (self.new ≡ self.old ++ mark.defines_alias
+            (record { is_type = is_type; name = name.now; place = place }) ∷ []) }
+        ensures err { OnErr result (self.new ≡ self.old) }
+    {
+        let name = self.names.number(name)?;
+        self.calls.push(Call::DefineAlias {
+            is_type,
+            name,
+            place,
+        })?;
+        Ok(())
+    }
+
+    /// An alias is mentioned.
+    pub fn mention_alias(
+        &mut self,
+        is_type: bool,
+        name: &[u8],
+        place: u32,
+    ) -> Result<(), AllocError>
+        ensures ok { OnOk result (self.new ≡ self.old ++ mark.mentions_alias
+            (record { is_type = is_type; name = name.now; place = place }) ∷ []) }
+        ensures err { OnErr result (self.new ≡ self.old) }
+    {
+        let name = self.names.number(name)?;
+        self.calls.push(Call::MentionAlias {
+            is_type,
+            name,
+            place,
+        })?;
+        Ok(())
+    }
+
+    /// A pack has a wrong size.
+    pub fn note_pack(&mut self, place: u32) -> Result<(), AllocError>
+        ensures ok { OnOk result (self.new ≡ self.old ++ mark.bad_pack place ∷ []) }
+        ensures err { OnErr result (self.new ≡ self.old) }
+    {
+        self.calls.push(Call::BadPack { place })?;
+        Ok(())
+    }
+
+    /// What uses and successors mean, or the first fault: the least place, and there the lowest
+    /// code.
+    pub fn finish(self) -> Result<Uses, NameStop>
+        ensures ok { OnOk result ((f : Fault) → IsNameFault self f → ⊥) }
+        ensures values { IfOk result (λ u. map Some u.values ≡ value_meanings self) }
+        ensures blocks { IfOk result (λ u. map Some u.blocks ≡ block_meanings self) }
+        ensures refused { IfErr result (λ stop. RefusesNames self stop) }
+    {
+        let Ok(values) = judge_values(self.alloc, &self.names, self.calls.as_slice()) else {
+            return Err(NameStop::OutOfMemory);
+        };
+        let Ok(blocks) = judge_blocks(self.alloc, &self.names, self.calls.as_slice()) else {
+            return Err(NameStop::OutOfMemory);
+        };
+        let Ok(others) = judge_aliases(self.alloc, &self.names, self.calls.as_slice()) else {
+            return Err(NameStop::OutOfMemory);
+        };
+        match earlier(earlier(values.first, blocks.first), others) {
+            Some(f) => Err(NameStop::Refused {
+                place: f.place,
+                code: f.code,
+            }),
+            None => Ok(Uses {
+                values: values.meanings,
+                blocks: blocks.meanings,
+            }),
+        }
+    }
+}

@@ -1,0 +1,117 @@
+//! What each name means in the open regions.
+
+ghost use Rattle.std.specs.Prelude.{◌≡◌, ◌<◌, ◌+◌, ◌∷◌, [], IfOk, OnOk, List, ℕ, length, Some, slice_get};
+ghost use Rattle.symbol_scopes.specs.ScopeMarks.{Binding, own, behind_own};
+ghost use Rattle.symbol_scopes.specs.Listed.{IsListed, bindings_in};
+ghost use Rattle.symbol_scopes.specs.Slots.{AreSlots, outer_of, IsOuterKept};
+
+use crate::listed::Listed;
+use crate::names::Names;
+use crate::round::Round;
+use std::alloc::{AllocError, Global};
+
+/// A definition that a name means: its number, its region, and the size of its pack or the number of
+/// its block.
+#[derive(Clone, Copy)]
+pub struct FoundBinding {
+    pub at: usize,
+    pub region: usize,
+    pub number: usize,
+}
+
+/// What a name means, and the least number of a definition of it in the open regions; the count of
+/// definitions where there is none.
+#[derive(Clone, Copy)]
+pub struct NameSlot {
+    pub found: Option<FoundBinding>,
+    pub least: usize,
+}
+
+/// A slot for each name, and for each definition in an open region that of its name outside.
+#[derive(Drop)]
+pub struct NameSlots {
+    pub slots: Vec<NameSlot>,
+    pub saved: Vec<NameSlot>,
+}
+
+/// What a name means outside a region, by its slot in it.
+fn outer_slot(slot: NameSlot, saved: &[NameSlot], region: usize) -> NameSlot
+    requires { IsOuterKept slot (length saved.now) region }
+    ensures { result ≡ outer_of slot saved.now region }
+{
+    match slot.found {
+        Some(f) => {
+            if f.region == region {
+                saved[f.at]
+            } else {
+                slot
+            }
+        }
+        None => slot,
+    }
+}
+
+impl NameSlots {
+    /// No region is open.
+    pub fn new(alloc: Global, names: &Names, listed: &Listed) -> Result<NameSlots, AllocError>
+        ensures { IfOk result (λ t. AreSlots names.now (bindings_in names.now listed.now) [] t) }
+    {
+        let slot = NameSlot {
+            found: None,
+            least: listed.rows.len(),
+        };
+        Ok(NameSlots {
+            slots: vec![in alloc; slot; names.len()]?,
+            saved: vec![in alloc; slot; listed.rows.len()]?,
+        })
+    }
+
+    /// The innermost region begins: each name that it defines means its first definition there.
+    pub fn enter(&mut self, names: &Names, listed: &Listed, round: &Round)
+        requires listed { IsListed names.now (bindings_in names.now listed.now)
+            (length listed.now.heads.items) listed.now }
+        requires slots { AreSlots names.now (bindings_in names.now listed.now)
+            (behind_own round.now.round) self.old }
+        requires known { own round.now.round < length listed.now.heads.items }
+        ensures { AreSlots names.now (bindings_in names.now listed.now) round.now.round self.new }
+    {
+        let region = round.region();
+        let _ = names.len();
+        let mut at = listed.heads[region];
+        while let Some(d) = at {
+            let row = listed.rows[d];
+            let slot = self.slots[row.name];
+            let out = outer_slot(slot, self.saved.as_slice(), region);
+            self.saved[d] = out;
+            self.slots[row.name] = NameSlot {
+                found: Some(FoundBinding {
+                    at: d,
+                    region,
+                    number: row.number,
+                }),
+                least: d.min(out.least),
+            };
+            at = row.next;
+        }
+    }
+
+    /// The innermost region ends: each name means what it means outside.
+    pub fn leave(&mut self, names: &Names, listed: &Listed, round: &Round)
+        requires listed { IsListed names.now (bindings_in names.now listed.now)
+            (length listed.now.heads.items) listed.now }
+        requires slots { AreSlots names.now (bindings_in names.now listed.now)
+            round.now.round self.old }
+        requires known { own round.now.round < length listed.now.heads.items }
+        ensures { AreSlots names.now (bindings_in names.now listed.now)
+            (behind_own round.now.round) self.new }
+    {
+        let region = round.region();
+        let _ = names.len();
+        let mut at = listed.heads[region];
+        while let Some(d) = at {
+            let row = listed.rows[d];
+            self.slots[row.name] = self.saved[d];
+            at = row.next;
+        }
+    }
+}
