@@ -10,10 +10,9 @@
 --   Regions N V       a list of regions
 --   Blocks N V        a list of blocks
 --   types_in m        the types of all values of a module, in order of definition
---   nesting m         how deep regions are nested
 --   block_args bs, region_args rs      the types of the arguments of each block, of each region
 --   mapped f g m      the module with f at each name and g at each type and value
-use Rattle.std.specs.Prelude.{ℕ, ◌+◌, max, List, [], ◌∷◌, ◌++◌, map}
+use Rattle.std.specs.Prelude.{ℕ, List, [], ◌∷◌, ◌++◌, map}
 
 -- An operation without its regions. Operands are numbers of values, counted from 0 over the whole
 -- module in order of definition, and successors are numbers of blocks in the operation's region.
@@ -57,21 +56,6 @@ module _ {N V : Type 0} where
     pub types_in_blocks : Blocks N V → List V
     types_in_blocks no_blocks = []
     types_in_blocks (block args ops bs) = args ++ types_in ops ++ types_in_blocks bs
-
-  -- how deep regions are nested: those of operations at top level once, and each in one once more
-  abbrev mutual
-    pub nesting : Ops N V → ℕ
-    nesting no_ops = 0
-    nesting (then_op head regions os) = max (nesting_of_regions regions) (nesting os)
-
-    pub nesting_of_regions : Regions N V → ℕ
-    nesting_of_regions no_regions = 0
-    nesting_of_regions (region blocks rs) =
-        max (nesting_of_blocks blocks + 1) (nesting_of_regions rs)
-
-    pub nesting_of_blocks : Blocks N V → ℕ
-    nesting_of_blocks no_blocks = 0
-    nesting_of_blocks (block args ops bs) = max (nesting ops) (nesting_of_blocks bs)
 
   -- the types of the arguments of each block
   abbrev pub block_args : Blocks N V → List (List V)
