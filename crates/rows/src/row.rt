@@ -1,0 +1,119 @@
+//! Rows, as they are listed and as they are drawn.
+
+use crate::plan::Plan;
+use anyhow::{Context, Result, bail};
+use std::alloc::{AllocError, Global};
+
+/// The name of the file of a listed row.
+const LISTED_NAME: &str = "f.irdl";
+
+/// A run of the program over one file, and what it has to answer.
+#[derive(Drop)]
+pub struct Row<'a> {
+    /// The row as it is told where it differs.
+    pub title: &'a str,
+    pub words: Vec<&'a str>,
+    /// The name of the file.
+    pub name: &'a str,
+    pub text: Vec<u8>,
+    pub plan: Plan,
+    pub status: u8,
+    /// What standard output has to get.
+    pub out: Vec<u8>,
+    /// What standard error has to get.
+    pub err: Vec<u8>,
+}
+
+impl<'a> Row<'a> {
+    /// The row of a line of the list.
+    pub fn listed(alloc: Global, line: &'a str) -> Result<Row<'a>> {
+        let fields: Vec<&str> = line
+            .splitn(6, ';')
+            .map(|field| field.trim())
+            .collect(alloc)?;
+        let [words, plan, status, out, err, text] = fields.as_slice() else {
+            bail!("a row has six fields: {line}");
+        };
+        let plan = Plan::of_items(plan)?;
+        let mut text = unescaped(alloc, text)?;
+        for _ in 0..plan.spaces {
+            text.push(b' ')?;
+        }
+        Ok(Row {
+            title: line,
+            words: words_of(alloc, words)?,
+            name: LISTED_NAME,
+            text,
+            plan,
+            status: status.parse()?,
+            out: unescaped(alloc, out)?,
+            err: unescaped(alloc, err)?,
+        })
+    }
+
+    /// The row of a part of a drawn file.
+    pub fn drawn(alloc: Global, name: &'a str, part: &'a str) -> Result<Row<'a>> {
+        let err = drawn_line(alloc, name, part)?;
+        Ok(Row {
+            title: part,
+            words: vec![in alloc; "check", name]?,
+            name,
+            text: part.as_bytes().to_vec(alloc)?,
+            plan: Plan::default(),
+            status: if err.is_empty() { 0 } else { 1 },
+            out: Vec::new(alloc),
+            err,
+        })
+    }
+}
+
+fn words_of<'a>(alloc: Global, words: &'a str) -> Result<Vec<&'a str>, AllocError> {
+    words
+        .split_whitespace()
+        .map(|word| if word == "''" { "" } else { word })
+        .collect(alloc)
+}
+
+/// The bytes that a field stands for.
+fn unescaped(alloc: Global, field: &str) -> Result<Vec<u8>> {
+    let mut bytes = Vec::new(alloc);
+    let mut is_first = true;
+    for part in field.split('\\') {
+        if is_first {
+            bytes.extend_from_slice(part.as_bytes())?;
+        } else {
+            let (byte, rest) = escaped_byte(part).context("no byte behind a backslash")?;
+            bytes.push(byte)?;
+            bytes.extend_from_slice(rest.as_bytes())?;
+        }
+        is_first = false;
+    }
+    Ok(bytes)
+}
+
+/// The byte that is spelled behind a backslash, and what follows it.
+fn escaped_byte(text: &str) -> Option<(u8, &str)> {
+    if let Some(rest) = text.strip_prefix('n') {
+        return Some((b'\n', rest));
+    }
+    let digits = text.strip_prefix('x')?;
+    let byte = u8::from_str_radix(digits.get(..2)?, 16).ok()?;
+    Some((byte, digits.get(2..)?))
+}
+
+/// The line for the refusal that is drawn into a file, or nothing.
+fn drawn_line(alloc: Global, name: &str, part: &str) -> Result<Vec<u8>, AllocError> {
+    for (above, line) in part.lines().enumerate() {
+        if let Some((column, message)) = caret(line) {
+            return Ok(format!(in alloc; "{name}:{above}:{column}: {message}\n")?.into_bytes());
+        }
+    }
+    Ok(Vec::new(alloc))
+}
+
+/// The column of the caret in a comment that draws a refusal, from 1, and the message behind it.
+fn caret(line: &str) -> Option<(usize, &str)> {
+    let (before, message) = line.split_once("^ ")?;
+    let is_drawn = before.trim() == "//" && message.starts_with("error ");
+    is_drawn.then_some((before.len().saturating_add(1), message))
+}
