@@ -8,9 +8,9 @@ use Rattle.attr_value.specs.Ids.{at, kids_at, AreKnown}
 use Rattle.attr_value.specs.Values.{Value, list_of}
 use Rattle.dialect_defs.specs.declared.body.VarId.{VarId}
 use Rattle.dialect_defs.specs.declared.entry.Entry.{Entry}
-use Rattle.dialect_defs.specs.Assignments.{Assignment, Has, HaveEach}
+use Rattle.dialect_defs.specs.Assignments.{Assignment, Has, HaveEach, IsWithin}
 use Rattle.dialect_defs.specs.Goodness.{vars_of}
-use Rattle.constraint_solver.specs.Search.{Within, SameFrom, Forced, Refuted}
+use Rattle.constraint_solver.specs.Search.{SameFrom, Forced, Refuted}
 
 -- what holds of each item holds of the one at a place, and the other way round
 pub all-at : {X : Type 0} (P : X → Type 0) (xs : List X) (k : ℕ) (d : X) → k < length xs
@@ -87,9 +87,9 @@ length-vars (p ∷ params) = ap suc (length-vars params)
 -- the first i variables were given their values
 pub record Filled (n : ℕ) (old now : Assignment) (V : ℕ → VarId) (X : ℕ → Value) (len i : ℕ)
     : Type 0 where
-  pub grown : Within old now
+  pub grown : IsWithin old now
   pub done : Have V X i now
-  pub least : (a : Assignment) → Within old a → Have V X len a → Within now a
+  pub least : (a : Assignment) → IsWithin old a → Have V X len a → IsWithin now a
   pub above : SameFrom n old now
 
 module _ (n : ℕ) (old : Assignment) (V : ℕ → VarId) (X : ℕ → Value) (len : ℕ) where

@@ -14,9 +14,9 @@ use Rattle.attr_value.specs.Ids.{at}
 use Rattle.attr_value.specs.Values.{Value}
 use Rattle.dialect_defs.specs.declared.body.Body.{Body}
 use Rattle.dialect_defs.specs.declared.body.VarId.{VarId}
-use Rattle.dialect_defs.specs.Assignments.{Tests, Assignment, Has, MeetsBody}
+use Rattle.dialect_defs.specs.Assignments.{Tests, Assignment, Has, MeetsBody, IsWithin}
 use Rattle.constraint_solver.specs.Roots.{assigned, AreKnownIds, HasRoots}
-use Rattle.constraint_solver.specs.Search.{Within, Forced, Refuted, MeetsBelow, Solved}
+use Rattle.constraint_solver.specs.Search.{Forced, Refuted, MeetsBelow, Solved}
 use Rattle.constraint_solver.proofs.Given.{has-slot, slot-has, SlotOf}
 use Rattle.constraint_solver.proofs.Settled.{keeps-grows}
 
@@ -44,7 +44,7 @@ module _ (values : List Value) (tests : Tests) (body : Body) (n : ℕ) (empty : 
         (same : n ≡ length body.vars)
         (s : Solved n values tests body mid (assigned values ids)) where
       -- the values are those of the first n variables
-      there : Within (assigned values ids) (assigned values (take n ids))
+      there : IsWithin (assigned values ids) (assigned values (take n ids))
       there v x has = by (cases_lt v.0 n)
         where
           by : (v.0 < n) ⊎ (n ≤ v.0) → Has (assigned values (take n ids)) v x
@@ -55,7 +55,7 @@ module _ (values : List Value) (tests : Tests) (body : Body) (n : ℕ) (empty : 
               (get_or-take n ids v.0 None below ∙ slot.stands))
           by (inr from) = absurd (bare v x (f.above v x from (s.above v x from has)))
 
-      back : Within (assigned values (take n ids)) (assigned values ids)
+      back : IsWithin (assigned values (take n ids)) (assigned values ids)
       back v x has = by (slot-has values (take n ids) v x has) (cases_lt v.0 n)
         where
           by : SlotOf values (take n ids) v.0 x → (v.0 < n) ⊎ (n ≤ v.0)
@@ -77,7 +77,7 @@ module _ (values : List Value) (tests : Tests) (body : Body) (n : ℕ) (empty : 
             (back v x has));
       }
 
-      pub found-has : ((a b : Assignment) → Within a b → P a → P b)
+      pub found-has : ((a b : Assignment) → IsWithin a b → P a → P b)
           → P (assigned values (take n ids))
       found-has grows = grows (assigned values ids) (assigned values (take n ids)) there
           (grows mid (assigned values ids) s.grown f.holds)
@@ -95,7 +95,7 @@ known-take len n ids known v id is = by (cases_lt v n)
 
 -- roots that are there stay as the assignment grows
 pub roots-grow : (values : List Value) (roots : List (VarId × ValueId)) (a b : Assignment)
-    → Within a b → HasRoots values roots a → HasRoots values roots b
+    → IsWithin a b → HasRoots values roots a → HasRoots values roots b
 roots-grow values [] a b grown has = tt
 roots-grow values (root ∷ roots) a b grown has =
     (grown root.0 (at values root.1.0) has.0, roots-grow values roots a b grown has.1)

@@ -1,5 +1,6 @@
 -- The values that variables have by the ids that were given to them.
-use Rattle.std.proofs.Common.{◌≡◌, ◌∙◌, ℕ, ◌<◌, ◌⊎◌, inl, inr, List, length}
+use Rattle.std.proofs.Common.{◌≡◌, ◌∙◌, ◌↔◌, ℕ, ◌<◌, ◌⊎◌, inl, inr, List, length}
+use Rattle.std.proofs.Common.{Bool, true, false, IsTrue, true≢false}
 use Rattle.std.proofs.Common.{set, replicate, zero, suc}
 use Rattle.std.proofs.Common.{refl, ap, sym, subst, arith, get_or}
 use Rattle.std.proofs.lemmas.Bool.{cases_eq}
@@ -13,9 +14,9 @@ use Rattle.attr_value.specs.declared.head.ValueId.{ValueId}
 use Rattle.attr_value.specs.Ids.{at}
 use Rattle.attr_value.specs.Values.{Value}
 use Rattle.dialect_defs.specs.declared.body.VarId.{VarId}
-use Rattle.dialect_defs.specs.Assignments.{Assignment, Has}
-use Rattle.constraint_solver.specs.Roots.{assigned}
-use Rattle.constraint_solver.specs.Search.{Within, Forced, Refuted}
+use Rattle.dialect_defs.specs.Assignments.{Assignment, Has, IsWithin}
+use Rattle.constraint_solver.specs.Roots.{assigned, AreKnownIds}
+use Rattle.constraint_solver.specs.Search.{Forced, Refuted, Forces}
 
 -- a variable has one value
 pub has-one : (a : Assignment) (v : VarId) (x y : Value) → Has a v x → Has a v y → x ≡ y
@@ -120,7 +121,7 @@ module _ (values : List Value) where
       above = λ w x from new. other w x new (λ same. omega (arith, below, from, same));
     }
       where
-        from : (a : Assignment) → Within (assigned values ids) a → Has a v (at values id.0)
+        from : (a : Assignment) → IsWithin (assigned values ids) a → Has a v (at values id.0)
             → (w : VarId) (x : Value) → Has (assigned values (set ids v.0 (Some id))) w x
             → (w.0 ≡ v.0) ⊎ (w.0 ≡ v.0 → ⊥) → Has a w x
         from a under has w x new (inl same) =
@@ -145,6 +146,75 @@ module _ (values : List Value) where
   refuted ids v old id is differ a under has =
       differ (has-one a v _ _ (under v _ (has-slot ids v old is)) has)
 
+-- the ids stay known where a variable is given one that is
+pub AreKnownIds-set : (len : ℕ) (ids : List (Option ValueId)) (v : ℕ) (id : ValueId)
+    → v < length ids → AreKnownIds len ids → id.0 < len → AreKnownIds len (set ids v (Some id))
+AreKnownIds-set len ids v id within known here w other is = by (cases_eq w v)
+  where
+    by : (w ≡ v) ⊎ (w ≡ v → ⊥) → other.0 < len
+    by (inl same) =
+        let stands : slice_index_or (set ids v (Some id)) v None ≡ Some other =
+        subst (λ k. slice_index_or (set ids v (Some id)) k None ≡ Some other) same is in
+        let found : Some id ≡ Some other =
+        sym (get_or-set_same ids v (Some id) None within) ∙ stands in
+        let one : id ≡ other = cc in
+        subst (λ (k : ValueId). k.0 < len) one here
+    by (inr differ) =
+        known w other (sym (get_or-set_other ids v w (Some id) None differ) ∙ is)
+
+-- the least values are there
+pub Forces-true : {n : ℕ} {values : List Value} {old new : List (Option ValueId)}
+    {P : Assignment → Type 0} → Forced n (assigned values old) (assigned values new) P
+    → AreKnownIds (length values) new → Forces n values old new true P
+Forces-true f known = record {
+  forced = λ yes. f;
+  known = λ yes. known;
+  refuted = λ no. absurd (true≢false no);
+}
+
+-- no more values make it hold
+pub Forces-false : {n : ℕ} {values : List Value} {old new : List (Option ValueId)}
+    {P : Assignment → Type 0} → Refuted (assigned values old) P → Forces n values old new false P
+Forces-false r = record {
+  forced = λ yes. absurd (true≢false (sym yes));
+  known = λ yes. absurd (true≢false (sym yes));
+  refuted = λ no. r;
+}
+
+-- a test of what doesn't speak of variables
+pub Forces-test : {n : ℕ} {values : List Value} {ids : List (Option ValueId)} {took : Bool}
+    {P : Assignment → Type 0} → AreKnownIds (length values) ids
+    → ((a : Assignment) → IsTrue took ↔ P a) → Forces n values ids ids took P
+Forces-test {values = values} {ids = ids} known says = record {
+  forced = λ yes. record {
+    grown = λ v x has. has;
+    holds = (says (assigned values ids)).0 yes;
+    least = λ a under p. under;
+    above = λ v x from has. has;
+  };
+  known = λ yes. known;
+  refuted = λ no a under p. true≢false (sym ((says a).1 p) ∙ no);
+}
+
+-- another property that the same assignments have
+pub Forces-as : {n : ℕ} {values : List Value} {old new : List (Option ValueId)} {took : Bool}
+    {P Q : Assignment → Type 0} → ((a : Assignment) → P a → Q a)
+    → ((a : Assignment) → Q a → P a) → Forces n values old new took P
+    → Forces n values old new took Q
+Forces-as there back f = record {
+  forced = λ yes.
+      let one = f.forced yes in
+      record {
+        grown = one.grown;
+        holds = there _ one.holds;
+        least = λ a under q. one.least a under (back a q);
+        above = one.above;
+      };
+  known = f.known;
+  refuted = λ no a under q. f.refuted no a under (back a q);
+}
+
+-- nothing stands in a list of nothing
 pub get-or-replicate : {A : Type 0} (n : ℕ) (d : A) (v : ℕ) → get_or (replicate n d) v d ≡ d
 get-or-replicate zero d v = refl
 get-or-replicate (suc n) d zero = refl

@@ -12,8 +12,8 @@ use Rattle.dialect_defs.specs.declared.body.Constraint.{Constraint}
 use Rattle.dialect_defs.specs.declared.body.Constraint.TheVariants.{Is, Any, Base, Parametric}
 use Rattle.dialect_defs.specs.declared.body.Constraint.TheVariants.{AnyOf, AllOf, Native}
 use Rattle.dialect_defs.specs.declared.body.VarId.{VarId}
-use Rattle.dialect_defs.specs.Assignments.{Tests, Assignment, Has, HaveEach, Keeps}
-use Rattle.constraint_solver.specs.Search.{Within, SameFrom, Forced, Refuted, MeetsBelow, Solved}
+use Rattle.dialect_defs.specs.Assignments.{Tests, Assignment, Has, HaveEach, Keeps, IsWithin}
+use Rattle.constraint_solver.specs.Search.{SameFrom, Forced, Refuted, MeetsBelow, Solved}
 use Rattle.constraint_solver.specs.Search.{IsDirect}
 use Rattle.constraint_solver.proofs.Given.{has-one, has-same}
 use Rattle.constraint_solver.proofs.Filled.{var_at}
@@ -26,7 +26,7 @@ same-default xs k d e within = same_Some (get_or xs k d) (get_or xs k e)
     (sym (slice_get-get_or xs k d within) ∙ slice_get-get_or xs k e within)
 
 -- a constraint that is kept stays kept as the assignment grows
-pub each-grows : (a b : Assignment) (vs : List VarId) (xs : List Value) → Within a b
+pub each-grows : (a b : Assignment) (vs : List VarId) (xs : List Value) → IsWithin a b
     → HaveEach a vs xs → HaveEach b vs xs
 each-grows a b [] [] grown have = tt
 each-grows a b [] (x ∷ xs) grown have = have
@@ -34,13 +34,13 @@ each-grows a b (v ∷ vs) [] grown have = have
 each-grows a b (v ∷ vs) (x ∷ xs) grown have =
     (grown v x have.0, each-grows a b vs xs grown have.1)
 
-all-grows : (a b : Assignment) (vs : List VarId) (x : Value) → Within a b
+all-grows : (a b : Assignment) (vs : List VarId) (x : Value) → IsWithin a b
     → AllByRecursion (λ v. Has a v x) vs → AllByRecursion (λ v. Has b v x) vs
 all-grows a b [] x grown have = tt
 all-grows a b (v ∷ vs) x grown have = (grown v x have.0, all-grows a b vs x grown have.1)
 
 pub keeps-grows : (values : List Value) (tests : Tests) (c : Constraint) (a b : Assignment)
-    (x : Value) → Within a b → Keeps values tests a c x → Keeps values tests b c x
+    (x : Value) → IsWithin a b → Keeps values tests a c x → Keeps values tests b c x
 keeps-grows values tests (Is id) a b x grown kept = kept
 keeps-grows values tests Any a b x grown kept = kept
 keeps-grows values tests (Base base) a b x grown kept = kept
@@ -51,18 +51,7 @@ keeps-grows values tests (AnyOf members) a b x grown kept =
 keeps-grows values tests (AllOf members) a b x grown kept = all-grows a b members x grown kept
 keeps-grows values tests (Native i) a b x grown kept = kept
 
--- a property that doesn't speak of the assignment
-pub leaf-forced : (n : ℕ) (old : Assignment) (P : Type 0) → P → Forced n old old (λ a. P)
-leaf-forced n old P p = record {
-  grown = λ v x has. has;
-  holds = p;
-  least = λ a under q. under;
-  above = λ v x from has. has;
-}
-
-pub leaf-refuted : (old : Assignment) (P : Type 0) → (P → ⊥) → Refuted old (λ a. P)
-leaf-refuted old P never a under p = never p
-
+-- a constraint that is no `any_of` leaves no choice
 pub direct : (c : Constraint) → ((ms : List VarId) → c ≡ AnyOf ms → ⊥) → IsDirect c
 direct (Is id) other = tt
 direct Any other = tt
@@ -110,7 +99,7 @@ module _ (values : List Value) (tests : Tests) (body : Body) (v n : ℕ) (next :
     Kept a = Keeps values tests a c x
 
     -- what the constraint of a variable with a value asks
-    asks : (old a : Assignment) → Has old here x → Within old a → Upto a → Kept a
+    asks : (old a : Assignment) → Has old here x → IsWithin old a → Upto a → Kept a
     asks old a has under met = met here c x (omega (arith, next)) is (under here x has)
 
     pub kept-refuted : (old : Assignment) → Has old here x → Refuted old Kept
@@ -123,7 +112,7 @@ module _ (values : List Value) (tests : Tests) (body : Body) (v n : ℕ) (next :
         r a (f.least a under (asks old a has under met)) (fewer a met)
 
     -- where the variables before are settled, and the constraint is kept already
-    pub then-solved : (old mid new : Assignment) → Has old here x → Within old mid
+    pub then-solved : (old mid new : Assignment) → Has old here x → IsWithin old mid
         → SameFrom v old mid → Kept mid → Solved v values tests body mid new
         → Solved n values tests body old new
     then-solved old mid new has grown above kept s = record {

@@ -7,8 +7,8 @@ ghost use Rattle.attr_value.specs.Values.{list_of};
 ghost use Rattle.dialect_defs.specs.Assignments.{Has, HaveEach};
 ghost use Rattle.dialect_defs.specs.Bodies.{AreBelow};
 ghost use Rattle.dialect_defs.specs.Goodness.{vars_of};
-ghost use Rattle.constraint_solver.specs.Roots.{HasRoots, assigned, AreKnownIds};
-ghost use Rattle.constraint_solver.specs.Search.{Forced, Refuted};
+ghost use Rattle.constraint_solver.specs.Roots.{HasRoots, AreKnownIds};
+ghost use Rattle.constraint_solver.specs.Search.{Forces};
 
 use attr_uniquer::Uniquer;
 use attr_value::ValueId;
@@ -35,11 +35,8 @@ pub fn assign(u: &Uniquer, n: usize, slots: &mut Slots, var: VarId, id: ValueId)
     requires id { id.0 < length u.now }
     requires below { var.0 < n }
     requires within { n ≤ VARIABLE_LIMIT }
-    ensures forced { IsTrue result → Forced n (assigned u.now slots.old.ids)
-        (assigned u.now slots.new.ids) (λ a. Has a var (at u.now id.0)) }
-    ensures known { IsTrue result → AreKnownIds (length u.now) slots.new.ids }
-    ensures refuted { result ≡ false →
-        Refuted (assigned u.now slots.old.ids) (λ a. Has a var (at u.now id.0)) }
+    ensures { Forces n u.now slots.old.ids slots.new.ids result
+        (λ a. Has a var (at u.now id.0)) }
 {
     match slots.ids[var.0] {
         None => {
@@ -56,11 +53,7 @@ pub fn assign_all(u: &Uniquer, n: usize, slots: &mut Slots, vars: &[VarId], id: 
     requires id { id.0 < length u.now }
     requires below { AreBelow n vars.now }
     requires within { n ≤ VARIABLE_LIMIT }
-    ensures forced { IsTrue result → Forced n (assigned u.now slots.old.ids)
-        (assigned u.now slots.new.ids)
-        (λ a. AllByRecursion (λ v. Has a v (at u.now id.0)) vars.now) }
-    ensures known { IsTrue result → AreKnownIds (length u.now) slots.new.ids }
-    ensures refuted { result ≡ false → Refuted (assigned u.now slots.old.ids)
+    ensures { Forces n u.now slots.old.ids slots.new.ids result
         (λ a. AllByRecursion (λ v. Has a v (at u.now id.0)) vars.now) }
 {
     for var in vars {
@@ -84,11 +77,7 @@ pub fn assign_each(
     requires lengths { length vars.now ≡ length kids.now }
     requires below { AreBelow n vars.now }
     requires within { n ≤ VARIABLE_LIMIT }
-    ensures forced { IsTrue result → Forced n (assigned u.now slots.old.ids)
-        (assigned u.now slots.new.ids)
-        (λ a. HaveEach a vars.now (list_of (kids_at u.now kids.now))) }
-    ensures known { IsTrue result → AreKnownIds (length u.now) slots.new.ids }
-    ensures refuted { result ≡ false → Refuted (assigned u.now slots.old.ids)
+    ensures { Forces n u.now slots.old.ids slots.new.ids result
         (λ a. HaveEach a vars.now (list_of (kids_at u.now kids.now))) }
 {
     for (i, var) in vars.iter().enumerate() {
@@ -112,11 +101,7 @@ pub fn assign_params(
     requires lengths { length params.now ≡ length kids.now }
     requires below { AreBelow n (vars_of params.now) }
     requires within { n ≤ VARIABLE_LIMIT }
-    ensures forced { IsTrue result → Forced n (assigned u.now slots.old.ids)
-        (assigned u.now slots.new.ids)
-        (λ a. HaveEach a (vars_of params.now) (list_of (kids_at u.now kids.now))) }
-    ensures known { IsTrue result → AreKnownIds (length u.now) slots.new.ids }
-    ensures refuted { result ≡ false → Refuted (assigned u.now slots.old.ids)
+    ensures { Forces n u.now slots.old.ids slots.new.ids result
         (λ a. HaveEach a (vars_of params.now) (list_of (kids_at u.now kids.now))) }
 {
     for (i, param) in params.iter().enumerate() {
@@ -133,11 +118,8 @@ pub fn assign_roots(u: &Uniquer, n: usize, slots: &mut Slots, roots: &[(VarId, V
     requires vars { AllByRecursion (λ root. root.0.0 < n) roots.now }
     requires ids { AllByRecursion (λ root. root.1.0 < length u.now) roots.now }
     requires within { n ≤ VARIABLE_LIMIT }
-    ensures forced { IsTrue result → Forced n (assigned u.now slots.old.ids)
-        (assigned u.now slots.new.ids) (HasRoots u.now roots.now) }
-    ensures known { IsTrue result → AreKnownIds (length u.now) slots.new.ids }
-    ensures refuted { result ≡ false →
-        Refuted (assigned u.now slots.old.ids) (HasRoots u.now roots.now) }
+    ensures { Forces n u.now slots.old.ids slots.new.ids result
+        (HasRoots u.now roots.now) }
 {
     for root in roots {
         if !assign(u, n, slots, root.0, root.1) {

@@ -7,8 +7,8 @@ ghost use Rattle.dialect_defs.specs.declared.body.Constraint.TheVariants.{Parame
 ghost use Rattle.dialect_defs.specs.Assignments.{IsOfRef, Keeps};
 ghost use Rattle.dialect_defs.specs.Bodies.{AreBelow, IsSoundAt};
 ghost use Rattle.native_predicate.specs.Lists.{tests, count};
-ghost use Rattle.constraint_solver.specs.Roots.{assigned, AreKnownIds};
-ghost use Rattle.constraint_solver.specs.Search.{Forced, Refuted, IsDirect};
+ghost use Rattle.constraint_solver.specs.Roots.{AreKnownIds};
+ghost use Rattle.constraint_solver.specs.Search.{Forces, IsDirect};
 
 use crate::assign::{Slots, assign_all, assign_each};
 use attr_uniquer::Uniquer;
@@ -56,11 +56,7 @@ fn force_parts(
     requires slots { AreKnownIds (length u.now) slots.old.ids }
     requires id { id.0 < length u.now }
     requires within { n ≤ VARIABLE_LIMIT }
-    ensures forced { IsTrue result → Forced n (assigned u.now slots.old.ids)
-        (assigned u.now slots.new.ids) (λ a. Keeps u.now (tests property natives.now) a
-        (Parametric is_type name.now parts.now) (at u.now id.0)) }
-    ensures known { IsTrue result → AreKnownIds (length u.now) slots.new.ids }
-    ensures refuted { result ≡ false → Refuted (assigned u.now slots.old.ids)
+    ensures { Forces n u.now slots.old.ids slots.new.ids result
         (λ a. Keeps u.now (tests property natives.now) a
         (Parametric is_type name.now parts.now) (at u.now id.0)) }
 {
@@ -89,11 +85,7 @@ pub fn force(
     requires slots { AreKnownIds (length u.now) slots.old.ids }
     requires id { id.0 < length u.now }
     requires within { n ≤ VARIABLE_LIMIT }
-    ensures forced { IsTrue result → Forced n (assigned u.now slots.old.ids)
-        (assigned u.now slots.new.ids)
-        (λ a. Keeps u.now (tests property natives.now) a constraint.now (at u.now id.0)) }
-    ensures known { IsTrue result → AreKnownIds (length u.now) slots.new.ids }
-    ensures refuted { result ≡ false → Refuted (assigned u.now slots.old.ids)
+    ensures { Forces n u.now slots.old.ids slots.new.ids result
         (λ a. Keeps u.now (tests property natives.now) a constraint.now (at u.now id.0)) }
 {
     match constraint {

@@ -16,7 +16,7 @@ mod sound;
 pub use assignment::Assignment;
 pub use good::good_head;
 pub use search::solve;
-pub use sound::{are_roots, are_sound_defs, is_sound_body};
+pub use sound::{are_below, are_roots, are_sound_defs, is_sound_body};
 
 #[cfg(test)]
 mod tests;

@@ -9,8 +9,8 @@ ghost use Rattle.constraint_solver.specs.Roots.{AreRoots};
 use attr_value::ValueId;
 use dialect_defs::{Body, Constraint, Entry, TypeDef, VARIABLE_LIMIT, VarId};
 
-/// Whether each variable has a number below `n`.
-fn are_below(n: usize, vars: &[VarId]) -> bool
+/// Whether each variable has a number below `n`. It takes no memory.
+pub fn are_below(n: usize, vars: &[VarId]) -> bool
     ensures { IsTrue result ↔ AreBelow n vars.now }
 {
     for var in vars {

@@ -7,8 +7,9 @@
 --   Assignment                          a finite map from variables to values
 --   Has a v x                           the variable v has the value x
 --   HaveEach a vs xs                    the variables have these values, one by one
+--   IsWithin a b                        each value of the map a is a value of the map b
 --   Keeps values tests a c x            a variable of the constraint c may have the value x
---   MeetsBody values tests body a           each variable that has a value keeps to its constraint
+--   MeetsBody values tests body a       each variable that has a value keeps to its constraint
 use Rattle.std.specs.Prelude.{◌≡◌, ℕ, Bool, false, IsTrue, List, [], ◌∷◌, length, Contains}
 use Rattle.std.specs.Prelude.{slice_get, slice_index_or}
 use Rattle.std.specs.List.{AllByRecursion}
@@ -41,6 +42,10 @@ Assignment = List (Option Value)
 -- a variable has a value
 abbrev pub Has : Assignment → VarId → Value → Type 0
 Has a v x = slice_get a v.0 ≡ Some (Some x)
+
+-- each value of the first map is a value of the second
+abbrev pub IsWithin : Assignment → Assignment → Type 0
+IsWithin a b = (v : VarId) (x : Value) → Has a v x → Has b v x
 
 -- there are as many variables as values, and each has the one at its place
 abbrev pub HaveEach : Assignment → List VarId → List Value → Type 0

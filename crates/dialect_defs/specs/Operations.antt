@@ -35,8 +35,8 @@ pub record Operation : Type 0 where
   pub attrs : Attrs
   pub regions : List (List (List Value))
 
--- the attribute of a key
-abbrev pub attr_at : Attrs → List ℕ → Option Value
+-- what stands with the first key that is this one
+abbrev pub attr_at : {X : Type 0} → List (List ℕ × X) → List ℕ → Option X
 attr_at [] key = None
 attr_at (attr ∷ attrs) key = if bytes_eq attr.0 key then Some attr.1 else attr_at attrs key
 

@@ -1,6 +1,6 @@
 -- The parts of an operation, one after the other.
 use Rattle.std.proofs.Common.{◌≡◌, ℕ, suc, ◌+◌, List, [], ◌∷◌, length, Some, slice_get, refl}
-use Rattle.std.proofs.Common.{◌∙◌, subst, arith}
+use Rattle.std.proofs.Common.{◌∙◌, subst, arith, Bool}
 use Rattle.std.specs.List.{AllByRecursion}
 use Rattle.attr_value.specs.declared.head.ValueId.{ValueId}
 use Rattle.attr_value.specs.Ids.{AreKnown}
@@ -12,39 +12,47 @@ use Rattle.dialect_defs.specs.Operations.{operand_sizes_key, result_sizes_key}
 use Rattle.ir_store.specs.Modules.{types_in}
 use Rattle.ir_store.specs.Named.{HaveTypes}
 use Rattle.ir_store.specs.Store.{Module}
-use Rattle.op_verifier.specs.Asked.{Slots, Asks, Refuses}
+use Rattle.op_verifier.specs.Asked.{Slots, Asks, Refuses, Asked}
 use Rattle.op_verifier.specs.Parts.{HasSegments, HasParts}
 use Rattle.op_verifier.proofs.Walks.{known-at}
 
 module _ (values : List Value) (d : OpDef) (o : Operation) where
+  -- what the operands ask
   abbrev pub Operands : Assignment → Type 0
   Operands a = HasSegments a d.operands o.operands
       (given_sizes (attr_at o.attrs operand_sizes_key))
 
+  -- what the results ask
   abbrev pub Results : Assignment → Type 0
   Results a = HasSegments a d.results o.results (given_sizes (attr_at o.attrs result_sizes_key))
 
+  -- what the attributes ask
   abbrev pub Attributes : Assignment → Type 0
   Attributes a = AllByRecursion (λ entry. AttrHas a entry (attr_at o.attrs entry.name)) d.attrs
 
+  -- what the regions ask
   abbrev pub InRegions : Assignment → Type 0
   InRegions a = RegionsHave a d.regions o.regions
 
 module _ (values : List Value) (d : OpDef) (o : Operation) (s0 s1 s2 s3 : Slots) where
+  -- another number of successors refuses the whole
   pub successors-refuse : (o.successors ≡ length d.successors → ⊥)
       → Refuses values s0 (HasParts d o)
   successors-refuse differ = record { none = λ a w has. differ has.successors }
 
+  -- so do operands that are refused
   pub operands-refuse : Refuses values s0 (Operands values d o)
       → Refuses values s0 (HasParts d o)
   operands-refuse refuses = record { none = λ a w has. refuses.none a w has.operands }
 
+  -- results behind operands
   pub results-refuse : Asks values s0 s1 (Operands values d o)
       → Refuses values s1 (Results values d o) → Refuses values s0 (HasParts d o)
   results-refuse first refuses = record {
     none = λ a w has. refuses.none a (first.down a w has.operands).0 has.results;
   }
 
+  -- attributes behind these
   pub attrs-refuse : Asks values s0 s1 (Operands values d o)
       → Asks values s1 s2 (Results values d o)
       → Refuses values s2 (Attributes values d o) → Refuses values s0 (HasParts d o)
@@ -54,7 +62,8 @@ module _ (values : List Value) (d : OpDef) (o : Operation) (s0 s1 s2 s3 : Slots)
         refuses.none a (second.down a one has.results).0 has.attrs;
   }
 
-  pub regions-refuse : Asks values s0 s1 (Operands values d o)
+  -- a part that is refused refuses the whole
+  regions-refuse : Asks values s0 s1 (Operands values d o)
       → Asks values s1 s2 (Results values d o) → Asks values s2 s3 (Attributes values d o)
       → Refuses values s3 (InRegions values d o) → Refuses values s0 (HasParts d o)
   regions-refuse first second third refuses = record {
@@ -64,7 +73,8 @@ module _ (values : List Value) (d : OpDef) (o : Operation) (s0 s1 s2 s3 : Slots)
         refuses.none a (third.down a two has.attrs).0 has.regions;
   }
 
-  pub parts-ask : (s4 : Slots) → o.successors ≡ length d.successors
+  -- all parts are asked
+  parts-ask : (s4 : Slots) → o.successors ≡ length d.successors
       → Asks values s0 s1 (Operands values d o) → Asks values s1 s2 (Results values d o)
       → Asks values s2 s3 (Attributes values d o) → Asks values s3 s4 (InRegions values d o)
       → Asks values s0 s4 (HasParts d o)
@@ -90,6 +100,17 @@ module _ (values : List Value) (d : OpDef) (o : Operation) (s0 s1 s2 s3 : Slots)
             regions = four.1;
           },
         );
+  }
+
+  -- where the first parts are asked, what regions ask decides the rest
+  pub parts-asked : (s4 : Slots) (taken : Bool) → o.successors ≡ length d.successors
+      → Asks values s0 s1 (Operands values d o) → Asks values s1 s2 (Results values d o)
+      → Asks values s2 s3 (Attributes values d o)
+      → Asked values s3 s4 taken (InRegions values d o)
+      → Asked values s0 s4 taken (HasParts d o)
+  parts-asked s4 taken successors first second third asked = record {
+    asks = λ yes. parts-ask s4 successors first second third (asked.asks yes);
+    refuses = λ no. regions-refuse first second third (asked.refuses no);
   }
 
 -- ids that are the types of values are known

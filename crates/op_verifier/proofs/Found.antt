@@ -8,7 +8,7 @@ use Rattle.std.proofs.lemmas.Map.Keys.{Less-from_sorted}
 use Rattle.std.proofs.lemmas.Map.Text.{is_eq-slice_cmp}
 use Rattle.std.specs.Cmp.{nat_cmp_is}
 use Rattle.std.specs.Cmp.Lexicographic.{slice_cmp}
-use Rattle.std.specs.List.{AllByRecursion}
+use Rattle.std.specs.List.{AllByRecursion, zip}
 use Rattle.std.specs.List.Sorted.{IsStrictlySortedBy, IsNonDecreasingBy, IsPartitionPoint}
 use Rattle.std.specs.Ordering.{nat_cmp, ordering_index, ordering_reverse, ordering_then, is_eq}
 use Rattle.std.specs.Str.{bytes_eq}
@@ -19,7 +19,7 @@ use Rattle.attr_value.specs.Ids.{at, AreKnown}
 use Rattle.attr_value.specs.Values.{Value}
 use Rattle.attr_value.specs.declared.head.ValueId.{ValueId}
 use Rattle.dialect_defs.specs.Operations.{attr_at}
-use Rattle.op_verifier.specs.Keys.{id_of_key}
+use Rattle.constraint_solver.proofs.Filled.{all-at}
 use Rattle.op_verifier.specs.Seen.{attrs_seen}
 
 -- how two texts compare
@@ -99,34 +99,28 @@ rises keys key h i j d le within = elim (cases_eq i j) [
 not-equal : (own key : List ℕ) → compare_texts own key ≡ Less → bytes_eq own key ≡ false
 not-equal own key less = sym (is_eq-slice_cmp own key) ∙ ap is_eq less
 
-all-at : (P : List ℕ → Type 0) (keys : List (List ℕ)) (i : ℕ) → AllByRecursion P keys
-    → i < length keys → P (get_or keys i [])
-all-at P [] i all within = absurd (omega arith)
-all-at P (k ∷ ks) zero all within = all.0
-all-at P (k ∷ ks) (suc i) all within = all-at P ks i all.1 (omega arith)
-
 -- the key at a place is this one
 pub found-at : (keys : List (List ℕ)) (ids : List ValueId) (key : List ℕ) (i : ℕ) (d : ValueId)
     → IsStrictlySortedBy compare_texts keys → length ids ≡ length keys → i < length keys
     → ((e : List ℕ) → compare_texts (get_or keys i e) key ≡ Equal)
-    → id_of_key keys ids key ≡ Some (get_or ids i d)
+    → attr_at (zip keys ids) key ≡ Some (get_or ids i d)
 unfolding IsStrictlySortedBy
 found-at [] ids key i d order counts within here = absurd (omega arith)
 found-at (own ∷ keys) [] key i d order counts within here = absurd (omega arith)
 found-at (own ∷ keys) (id ∷ ids) key zero d order counts within here =
     let same : bytes_eq own key ≡ true =
     sym (is_eq-slice_cmp own key) ∙ ap is_eq (here []) in
-    ap (λ b. cond b (Some id) (id_of_key keys ids key)) same
+    ap (λ b. cond b (Some id) (attr_at (zip keys ids) key)) same
 found-at (own ∷ keys) (id ∷ ids) key (suc i) d order counts within here =
     let later : i < length keys = omega arith in
-    let below : compare_texts own (get_or keys i []) ≡ Less = all-at _ keys i order.0 later in
+    let below : compare_texts own (get_or keys i []) ≡ Less = all-at _ keys i [] later order.0 in
     let level : compare_texts (get_or keys i []) own ≡ compare_texts key own =
     nat_list_cmp_total.congr (get_or keys i []) key own (here []) in
     let less : compare_texts own key ≡ Less =
     nat_list_cmp_total.antisymm own key
     ∙ ap ordering_reverse (sym level)
     ∙ sym (nat_list_cmp_total.antisymm own (get_or keys i [])) ∙ below in
-    ap (λ b. cond b (Some id) (id_of_key keys ids key)) (not-equal own key less)
+    ap (λ b. cond b (Some id) (attr_at (zip keys ids) key)) (not-equal own key less)
     ∙ found-at keys ids key i d order.1 (omega arith) later here
 
 differs : (own key : List ℕ)
@@ -139,11 +133,11 @@ differs own key (inr more) = sym (is_eq-slice_cmp own key) ∙ ap is_eq more
 pub found-nowhere : (keys : List (List ℕ)) (ids : List ValueId) (key : List ℕ)
     → ((j : ℕ) → j < length keys → (compare_texts (get_or keys j []) key ≡ Less)
     ⊎ (compare_texts (get_or keys j []) key ≡ Greater))
-    → id_of_key keys ids key ≡ None
+    → attr_at (zip keys ids) key ≡ None
 found-nowhere [] ids key each = refl
 found-nowhere (own ∷ keys) [] key each = refl
 found-nowhere (own ∷ keys) (id ∷ ids) key each =
-    ap (λ b. cond b (Some id) (id_of_key keys ids key)) (differs own key (each 0 (omega arith)))
+    ap (λ b. cond b (Some id) (attr_at (zip keys ids) key)) (differs own key (each 0 (omega arith)))
     ∙ found-nowhere keys ids key (λ j less. each (suc j) (omega arith))
 
 pub apart : (keys : List (List ℕ)) (key : List ℕ) (i : ℕ)
@@ -156,29 +150,33 @@ apart keys key i point j within = elim (cases_lt j i) [
   | inr high ↦ inr (point.1 j [] high within)
 ]
 
+-- the value of an id
+abbrev pub value_of : List Value → Option ValueId → Option Value
+value_of values o = option_map (λ (id : ValueId). at values id.0) o
+
 -- the value of a key is that of its id
-pub attr-at-seen : (values : List Value) (keys : List (List ℕ)) (ids : List ValueId) (key : List ℕ)
+pub attr_at-attrs_seen : (values : List Value) (keys : List (List ℕ)) (ids : List ValueId) (key : List ℕ)
     → attr_at (attrs_seen values keys ids) key
-    ≡ option_map (λ (id : ValueId). at values id.0) (id_of_key keys ids key)
-attr-at-seen values [] ids key = refl
-attr-at-seen values (own ∷ keys) [] key = refl
-attr-at-seen values (own ∷ keys) (id ∷ ids) key =
-    if-mapped (bytes_eq own key) id _ (attr-at-seen values keys ids key)
+    ≡ value_of values (attr_at (zip keys ids) key)
+attr_at-attrs_seen values [] ids key = refl
+attr_at-attrs_seen values (own ∷ keys) [] key = refl
+attr_at-attrs_seen values (own ∷ keys) (id ∷ ids) key =
+    if-mapped (bytes_eq own key) id _ (attr_at-attrs_seen values keys ids key)
   where
     if-mapped : (b : Bool) (id : ValueId) (other : Option ValueId) {seen : Option Value}
-        → seen ≡ option_map (λ (id : ValueId). at values id.0) other
+        → seen ≡ value_of values other
         → cond b (Some (at values id.0)) seen
-        ≡ option_map (λ (id : ValueId). at values id.0) (cond b (Some id) other)
+        ≡ value_of values (cond b (Some id) other)
     if-mapped true id other e = refl
     if-mapped false id other e = e
 
 -- the id of a key is one of the ids
 pub key-known : (n : ℕ) (keys : List (List ℕ)) (ids : List ValueId) (key : List ℕ) (id : ValueId)
-    → AreKnown n ids → id_of_key keys ids key ≡ Some id → id.0 < n
+    → AreKnown n ids → attr_at (zip keys ids) key ≡ Some id → id.0 < n
 key-known n [] ids key id known e = cc
 key-known n (own ∷ keys) [] key id known e = cc
 key-known n (own ∷ keys) (first ∷ ids) key id known e =
-    by (bytes_eq own key) (id_of_key keys ids key) e
+    by (bytes_eq own key) (attr_at (zip keys ids) key) e
     (λ later. key-known n keys ids key id known.1 later)
   where
     by : (b : Bool) (other : Option ValueId) → cond b (Some first) other ≡ Some id

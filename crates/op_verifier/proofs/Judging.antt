@@ -6,7 +6,7 @@ use Rattle.std.specs.List.{AllByRecursion}
 use Rattle.attr_value.specs.declared.head.ValueId.{ValueId}
 use Rattle.attr_value.specs.Values.{Value}
 use Rattle.attr_value.specs.Ids.{AreKnown}
-use Rattle.constraint_solver.specs.Roots.{HasRoots, AreRoots, assigned}
+use Rattle.constraint_solver.specs.Roots.{HasRoots, AreRoots, assigned, AreKnownIds}
 use Rattle.dialect_defs.specs.declared.body.Body.{Body}
 use Rattle.dialect_defs.specs.declared.body.VarId.{VarId}
 use Rattle.dialect_defs.specs.declared.definition.OpDef.{OpDef}
@@ -19,7 +19,7 @@ use Rattle.op_verifier.specs.Meets.{MeetsNamed, HasFronts, CanJudge}
 use Rattle.op_verifier.specs.Seen.{Site, operation_seen, type_in, HasIds}
 use Rattle.op_verifier.proofs.Fronts.{fronts-have, fronts-meet}
 use Rattle.op_verifier.proofs.RegionSteps.{type-known}
-use Rattle.op_verifier.specs.Asked.{Slots, AreKnownSlots, Asks, Refuses}
+use Rattle.op_verifier.specs.Asked.{Slots, Asks, Refuses}
 use Rattle.op_verifier.specs.Parts.{HasParts, roots_of}
 use Rattle.op_verifier.proofs.RootLists.{none-within, roots-within, within-roots, roots-vars}
 use Rattle.op_verifier.proofs.RootLists.{roots-ids}
@@ -87,7 +87,7 @@ module _ (values : List Value) (tests : Tests) (d : OpDef) (o : Operation) where
       (within-roots values t m.assignment within.0))
 
 pub roots-sound : (len : ℕ) (body : Body) (t : Slots) (roots : List (VarId × ValueId))
-    → roots ≡ roots_of 0 t → length t ≡ length body.vars → AreKnownSlots len t
+    → roots ≡ roots_of 0 t → length t ≡ length body.vars → AreKnownIds len t
     → AreRoots len body roots
 roots-sound len body t roots same size known =
     subst (AreRoots len body) (sym same) (record {

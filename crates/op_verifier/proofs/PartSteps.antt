@@ -1,5 +1,5 @@
 -- What entries ask, part by part.
-use Rattle.std.proofs.Common.{◌≡◌, ℕ, suc, ◌+◌, ◌-◌, true, false, List, []}
+use Rattle.std.proofs.Common.{◌≡◌, ℕ, suc, ◌+◌, ◌-◌, Bool, List, []}
 use Rattle.std.proofs.Common.{◌∷◌, length, sum, take, drop, slice_get, refl, ap, sym}
 use Rattle.std.proofs.Common.{◌∙◌, subst, arith, Option, Some, None, ℤ}
 use Rattle.std.proofs.lemmas.List.{drop-drop}
@@ -11,38 +11,30 @@ use Rattle.dialect_defs.specs.declared.entry.AttrEntry.{AttrEntry}
 use Rattle.dialect_defs.specs.declared.entry.Entry.{Entry}
 use Rattle.dialect_defs.specs.Assignments.{Assignment, Has}
 use Rattle.dialect_defs.specs.Operations.{EntriesHave, AttrHas}
-use Rattle.dialect_defs.specs.Segments.{FitEach, Segments, parts}
-use Rattle.op_verifier.specs.Asked.{Slots, AreKnownSlots, Asks, Refuses}
+use Rattle.dialect_defs.specs.Segments.{Segments, parts}
+use Rattle.constraint_solver.specs.Roots.{AreKnownIds}
+use Rattle.op_verifier.specs.Asked.{Slots, Refuses, Asked}
 use Rattle.op_verifier.specs.Parts.{HasSegments}
-use Rattle.op_verifier.proofs.Asking.{rest-start, rest-end, rest-never, rest-of}
+use Rattle.op_verifier.proofs.Asking.{Asked-as, Asked-test}
 use Rattle.op_verifier.proofs.Walks.{drop-next}
 
 module _ (values : List Value) (entry : AttrEntry) where
-  -- an attribute that is there
-  pub some-asks : (s t : Slots) (o : Option Value) (x : Value) → o ≡ Some x
-      → Asks values s t (λ a. Has a entry.var x) → Asks values s t (λ a. AttrHas a entry o)
-  some-asks s t o x e asks =
-      rest-of asks (λ a has. subst (AttrHas a entry) (sym e) has)
-      (λ a has. subst (AttrHas a entry) e has)
+  -- an attribute that is there is asked of its variable
+  pub attr-there : (s t : Slots) (taken : Bool) (o : Option Value) (x : Value) → o ≡ Some x
+      → Asked values s t taken (λ a. Has a entry.var x)
+      → Asked values s t taken (λ a. AttrHas a entry o)
+  attr-there s t taken o x e asked =
+      Asked-as (λ a has. subst (AttrHas a entry) (sym e) has)
+      (λ a has. subst (AttrHas a entry) e has) asked
 
-  pub some-refuses : (s : Slots) (o : Option Value) (x : Value) → o ≡ Some x
-      → Refuses values s (λ a. Has a entry.var x) → Refuses values s (λ a. AttrHas a entry o)
-  some-refuses s o x e refuses = record {
-    none = λ a w has. refuses.none a w (subst (AttrHas a entry) e has);
-  }
-
-  -- an attribute that is missing
-  pub none-asks : (s : Slots) (o : Option Value) → o ≡ None → AreKnownSlots (length values) s
-      → entry.optional ≡ true → Asks values s s (λ a. AttrHas a entry o)
-  none-asks s o e known optional =
-      rest-end (rest-start s (λ a. AttrHas a entry o) known)
-      (λ a. subst (AttrHas a entry) (sym e) optional)
-
-  pub none-refuses : (s : Slots) (o : Option Value) → o ≡ None → AreKnownSlots (length values) s
-      → entry.optional ≡ false → Refuses values s (λ a. AttrHas a entry o)
-  none-refuses s o e known required =
-      rest-never (rest-start s (λ a. AttrHas a entry o) known)
-      (λ a has. let optional : entry.optional ≡ true = subst (AttrHas a entry) e has in cc)
+  -- one that is missing has to be optional
+  pub attr-missing : (s : Slots) (o : Option Value) → o ≡ None → AreKnownIds (length values) s
+      → Asked values s s entry.optional (λ a. AttrHas a entry o)
+  attr-missing s o e known =
+      Asked-test known (λ a. (
+        λ yes. subst (AttrHas a entry) (sym e) yes,
+        λ has. subst (AttrHas a entry) e has,
+      ))
 
 module _ (entries : List Entry) (sizes : List ℕ) (vs : List Value) (i start : ℕ) (entry : Entry)
     (n : ℕ) where
@@ -92,23 +84,16 @@ all-entries a entries sizes i vs e f =
     let inner = subst (λ ns. EntriesHave a [] (parts ns vs)) (sym f) tt in
     subst (λ es. EntriesHave a es (parts (drop i sizes) vs)) (sym e) inner
 
-pub fit-length : (entries : List Entry) (sizes : List ℕ) → FitEach entries sizes
-    → length sizes ≡ length entries
-fit-length [] [] h = refl
-fit-length (e ∷ es) (n ∷ ns) h = ap suc (fit-length es ns h.1)
-fit-length [] (n ∷ ns) h = absurd h
-fit-length (e ∷ es) [] h = absurd h
-
 module _ (values : List Value) (entries : List Entry) (vs : List Value) (given : Option (List ℤ))
   where
     -- the sizes that were found are those of any segments
-    pub segments-ask : (s t : Slots) (n : ℕ) (found : ArrayVec ℕ) → n ≡ length vs
-        → Segments entries n given found.items
+    pub segments-asked : (s t : Slots) (taken : Bool) (n : ℕ) (found : ArrayVec ℕ)
+        → n ≡ length vs → Segments entries n given found.items
         → ((sizes : List ℕ) → Segments entries n given sizes → found.items ≡ sizes)
-        → Asks values s t (λ a. EntriesHave a entries (parts found.items vs))
-        → Asks values s t (λ a. HasSegments a entries vs given)
-    segments-ask s t n found count segments only asks =
-        rest-of asks
+        → Asked values s t taken (λ a. EntriesHave a entries (parts found.items vs))
+        → Asked values s t taken (λ a. HasSegments a entries vs given)
+    segments-asked s t taken n found count segments only asked =
+        Asked-as
         (λ a have. record {
           sizes = found.items;
           segments = subst (λ m. Segments entries m given found.items) count segments;
@@ -117,19 +102,9 @@ module _ (values : List Value) (entries : List Entry) (vs : List Value) (given :
         (λ a h. subst (λ sizes. EntriesHave a entries (parts sizes vs))
         (sym (only h.sizes
         (subst (λ m. Segments entries m given h.sizes) (sym count) h.segments)))
-        h.have)
+        h.have) asked
 
-    pub segments-refuse : (s : Slots) (n : ℕ) (found : ArrayVec ℕ) → n ≡ length vs
-        → ((sizes : List ℕ) → Segments entries n given sizes → found.items ≡ sizes)
-        → Refuses values s (λ a. EntriesHave a entries (parts found.items vs))
-        → Refuses values s (λ a. HasSegments a entries vs given)
-    segments-refuse s n found count only refuses = record {
-      none = λ a w h. refuses.none a w (subst (λ sizes. EntriesHave a entries (parts sizes vs))
-          (sym (only h.sizes
-          (subst (λ m. Segments entries m given h.sizes) (sym count) h.segments)))
-          h.have);
-    }
-
+    -- values that fall into no segments are refused
     pub no-segments : (s : Slots) (n : ℕ) → n ≡ length vs
         → ((sizes : List ℕ) → Segments entries n given sizes → ⊥)
         → Refuses values s (λ a. HasSegments a entries vs given)

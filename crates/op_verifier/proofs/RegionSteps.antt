@@ -1,8 +1,9 @@
 -- What regions ask, part by part.
 use Rattle.std.proofs.Common.{◌≡◌, ℕ, zero, suc, ◌+◌, ◌-◌, ◌<◌, ◌≤◌, List, []}
-use Rattle.std.proofs.Common.{◌∷◌, length, drop, slice_get, get_or, refl, ap, sym, IfSome}
+use Rattle.std.proofs.Common.{◌∷◌, length, drop, slice_get, get_or, refl, ap, sym, IfSome, Bool}
 use Rattle.std.proofs.Common.{◌∙◌, subst, arith, Option, Some, None}
 use Rattle.std.proofs.Math.ListN.{drop_of_length-le}
+use Rattle.std.proofs.lemmas.List.{length-map}
 use Rattle.std.proofs.lemmas.Option.{slice_get_within, slice_get-get_or, get_or_from_slice_get}
 use Rattle.attr_value.specs.declared.head.ValueId.{ValueId}
 use Rattle.attr_value.specs.Ids.{at, AreKnown}
@@ -18,10 +19,12 @@ use Rattle.ir_store.specs.Named.{AreBlocks, AreRegions, HaveTypes, block_at, reg
 use Rattle.ir_store.specs.Numbering.{Numbers, BlockSite, RegionSite, past_block, behind}
 use Rattle.ir_store.specs.Numbering.{past_region, behind_blocks}
 use Rattle.ir_store.specs.Store.{OpName, Module}
-use Rattle.op_verifier.specs.Asked.{Slots, AreKnownSlots, Rest, Asks, Refuses}
+use Rattle.constraint_solver.specs.Roots.{AreKnownIds}
+use Rattle.op_verifier.specs.Asked.{Slots, Rest, Asks, Refuses, Asked}
 use Rattle.op_verifier.specs.Parts.{types_from}
 use Rattle.op_verifier.specs.Seen.{type_in, values_at, blocks_seen, regions_seen}
-use Rattle.op_verifier.proofs.Asking.{rest-start, rest-step, rest-refused, rest-end, rest-of}
+use Rattle.constraint_solver.proofs.Filled.{have-lengths}
+use Rattle.op_verifier.proofs.Asking.{rest-start, rest-step, rest-refused, rest-end, Asked-as}
 use Rattle.op_verifier.proofs.Walks.{drop-next, known-at}
 
 -- an element at a place within a list
@@ -149,18 +152,6 @@ blocks-count m c values (x ∷ xs) no_blocks are = absurd are
 blocks-count m c values (x ∷ xs) (block args ops bs) are =
     ap suc (blocks-count m (behind (past_block c args) ops) values xs bs are.2)
 
-have-each-length : (a : Assignment) (vars : List VarId) (xs : List Value) → HaveEach a vars xs
-    → length vars ≡ length xs
-have-each-length a [] [] h = refl
-have-each-length a (v ∷ vs) (x ∷ xs) h = ap suc (have-each-length a vs xs h.1)
-have-each-length a [] (x ∷ xs) h = absurd h
-have-each-length a (v ∷ vs) [] h = absurd h
-
-length-values : (values : List Value) (ids : List ValueId)
-    → length (values_at values ids) ≡ length ids
-length-values values [] = refl
-length-values values (x ∷ xs) = ap suc (length-values values xs)
-
 module _ (values : List Value) (m : Module) (vars : List VarId) (id : BlockId)
     (bs : Blocks OpName ValueId) where
   -- arguments of another number are refused
@@ -171,9 +162,9 @@ module _ (values : List Value) (m : Module) (vars : List VarId) (id : BlockId)
   args-count s count first counts differ = record {
     none = λ a w have.
         let each = subst (ArgsHave a (Some vars)) first.seen have in
-        let long = have-each-length a vars (values_at values first.site.args) each in
+        let long = have-lengths a vars (values_at values first.site.args) each in
         let same = counts first.site first.named in
-        differ (same ∙ sym (length-values values first.site.args) ∙ sym long);
+        differ (same ∙ sym (length-map first.site.args (λ (id : ValueId). at values id.0)) ∙ sym long);
   }
 
   block-seen : (a : Assignment) (count n : ℕ) (first : FirstBlock m id values bs)
@@ -183,38 +174,28 @@ module _ (values : List Value) (m : Module) (vars : List VarId) (id : BlockId)
       ap (values_at values) (args-are m n first.site.args have)
       ∙ ap (λ k. values_at values (types_from m n k)) (sym counts ∙ same)
 
-  pub args-ask : (s t : Slots) (count n : ℕ) (first : FirstBlock m id values bs)
+  -- the arguments of the first block are asked one by one
+  pub args-asked : (s t : Slots) (taken : Bool) (count n : ℕ) (first : FirstBlock m id values bs)
       → ((x : BlockSite OpName ValueId) → block_at m id ≡ Some x
       → (n ≡ x.at.values) × (count ≡ length x.args))
       → ((x : BlockSite OpName ValueId) → block_at m id ≡ Some x → HaveTypes m n x.args)
       → count ≡ length vars
-      → Asks values s t (λ a. HaveEach a vars (values_at values (types_from m n (length vars))))
-      → Asks values s t (λ a. ArgsHave a (Some vars) (blocks_seen values bs))
-  args-ask s t count n first counts types same asks =
+      → Asked values s t taken
+      (λ a. HaveEach a vars (values_at values (types_from m n (length vars))))
+      → Asked values s t taken (λ a. ArgsHave a (Some vars) (blocks_seen values bs))
+  args-asked s t taken count n first counts types same asked =
       let seen = λ (a : Assignment). block-seen a count n first
       (counts first.site first.named).1 same
       (types first.site first.named) in
-      rest-of asks
+      Asked-as
       (λ a have. subst (ArgsHave a (Some vars)) (sym first.seen)
       (subst (HaveEach a vars) (sym (seen a)) have))
       (λ a have. subst (HaveEach a vars) (seen a) (subst (ArgsHave a (Some vars)) first.seen have))
-
-  pub args-refuse : (s : Slots) (count n : ℕ) (first : FirstBlock m id values bs)
-      → ((x : BlockSite OpName ValueId) → block_at m id ≡ Some x
-      → (n ≡ x.at.values) × (count ≡ length x.args))
-      → ((x : BlockSite OpName ValueId) → block_at m id ≡ Some x → HaveTypes m n x.args)
-      → count ≡ length vars
-      → Refuses values s (λ a. HaveEach a vars (values_at values (types_from m n (length vars))))
-      → Refuses values s (λ a. ArgsHave a (Some vars) (blocks_seen values bs))
-  args-refuse s count n first counts types same refuses = record {
-    none = λ a w have. refuses.none a w
-        (subst (HaveEach a vars) (block-seen a count n first (counts first.site first.named).1 same
-        (types first.site first.named)) (subst (ArgsHave a (Some vars)) first.seen have));
-  }
+      asked
 
 -- no arguments are declared
 pub any-args : (values : List Value) (vars : Option (List VarId)) (seen : List (List Value))
-    (s : Slots) → AreKnownSlots (length values) s → vars ≡ None
+    (s : Slots) → AreKnownIds (length values) s → vars ≡ None
     → Asks values s s (λ a. ArgsHave a vars seen)
 any-args values vars seen s known none =
     rest-end (rest-start s (λ a. ArgsHave a vars seen) known)
@@ -223,16 +204,14 @@ any-args values vars seen s known none =
 -- ---- regions
 
 module _ (values : List Value) (entry : RegionEntry) (seen : List (List Value)) where
-  pub region-asks : (s t : Slots) → IfSome entry.size (λ n. length seen ≡ n)
-      → Asks values s t (λ a. ArgsHave a entry.args seen)
-      → Asks values s t (λ a. RegionHas a entry seen)
-  region-asks s t size asks =
-      rest-of asks (λ a have. record { size = size; args = have }) (λ a have. have.args)
+  -- a region of the declared size asks its arguments
+  pub region-asked : (s t : Slots) (taken : Bool) → IfSome entry.size (λ n. length seen ≡ n)
+      → Asked values s t taken (λ a. ArgsHave a entry.args seen)
+      → Asked values s t taken (λ a. RegionHas a entry seen)
+  region-asked s t taken size asked =
+      Asked-as (λ a have. record { size = size; args = have }) (λ a have. have.args) asked
 
-  pub region-refuses : (s : Slots) → Refuses values s (λ a. ArgsHave a entry.args seen)
-      → Refuses values s (λ a. RegionHas a entry seen)
-  region-refuses s refuses = record { none = λ a w have. refuses.none a w have.args }
-
+  -- one of another size is refused
   pub size-refuses : (s : Slots) → (IfSome entry.size (λ n. length seen ≡ n) → ⊥)
       → Refuses values s (λ a. RegionHas a entry seen)
   size-refuses s differ = record { none = λ a w have. differ have.size }
@@ -249,7 +228,7 @@ pub record RegionsLeft (values : List Value) (m : Module) (entries : List Region
 
 pub regions-start : (values : List Value) (m : Module) (c : Numbers) (entries : List RegionEntry)
     (ids : List RegionId) (s : Slots) (regions : Regions OpName ValueId)
-    → AreKnownSlots (length values) s → AreRegions m c ids regions
+    → AreKnownIds (length values) s → AreRegions m c ids regions
     → RegionsLeft values m entries ids 0 s s regions
 regions-start values m c entries ids s regions known are = record {
   left = regions;

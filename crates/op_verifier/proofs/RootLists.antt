@@ -1,19 +1,19 @@
 -- What is asked of variables, as a list of roots.
 use Rattle.std.proofs.Common.{◌≡◌, ℕ, zero, suc, ◌+◌, ◌<◌, ◌≤◌, List, [], ◌∷◌, ◌++◌, length}
-use Rattle.std.proofs.Common.{Option, Some, None, option_map, slice_get, drop, refl, ap, sym}
+use Rattle.std.proofs.Common.{Option, Some, None, slice_get, drop, refl, ap, sym}
 use Rattle.std.proofs.Common.{◌∙◌, subst, arith, append_assoc, append-nil}
 use Rattle.std.proofs.Math.ListN.{drop_of_length-le}
-use Rattle.std.proofs.lemmas.Option.{slice_get-map}
+use Rattle.std.specs.Prelude.{slice_index_or}
 use Rattle.std.specs.List.{AllByRecursion}
 use Rattle.attr_value.specs.declared.head.ValueId.{ValueId}
 use Rattle.attr_value.specs.Ids.{at}
 use Rattle.attr_value.specs.Values.{Value}
 use Rattle.dialect_defs.specs.declared.body.VarId.{VarId}
-use Rattle.dialect_defs.specs.Assignments.{Assignment, Has}
-use Rattle.constraint_solver.specs.Roots.{assigned}
-use Rattle.op_verifier.specs.Asked.{Slots, Within, AreKnownSlots}
+use Rattle.dialect_defs.specs.Assignments.{Assignment, Has, IsWithin}
+use Rattle.constraint_solver.specs.Roots.{assigned, AreKnownIds}
+use Rattle.op_verifier.specs.Asked.{Slots}
 use Rattle.op_verifier.specs.Parts.{root_of, roots_of}
-use Rattle.op_verifier.proofs.Slots.{asked-get}
+use Rattle.constraint_solver.proofs.Given.{has-slot, slot-has}
 use Rattle.op_verifier.proofs.Walks.{drop-next}
 
 pub roots-next : (slots : Slots) (i : ℕ) (slot : Option ValueId) → slice_get slots i ≡ Some slot
@@ -40,7 +40,7 @@ append-all P (x ∷ xs) ys first second = (first.0, append-all P xs ys first.1 s
 -- the variables from n on have what is asked of them
 abbrev WithinFrom : List Value → ℕ → Slots → Assignment → Type 0
 WithinFrom values n slots a =
-    (i : ℕ) (id : ValueId) → slice_get slots i ≡ Some (Some id)
+    (i : ℕ) (id : ValueId) → slice_index_or slots i None ≡ Some id
     → slice_get a (n + i) ≡ Some (Some (at values id.0))
 
 within-of-roots : (values : List Value) (n : ℕ) (slots : Slots) (a : Assignment)
@@ -76,31 +76,24 @@ roots-of-within values n (slot ∷ slots) a within =
     let next : n + suc i ≡ n + 1 + i = omega arith in
     subst (λ k. slice_get a k ≡ Some (Some (at values id.0))) next (within (suc i) id e)))
 
-option-some : (values : List Value) (o : Option (Option ValueId)) (x : Value)
-    → option_map (option_map (λ (id : ValueId). at values id.0)) o ≡ Some (Some x)
-    → (id : ValueId) × (o ≡ Some (Some id)) × (at values id.0 ≡ x)
-option-some values None x e = cc
-option-some values (Some None) x e = cc
-option-some values (Some (Some id)) x e = let same : at values id.0 ≡ x = cc in (id, refl, same)
-
 -- a map that has the roots has what is asked, and the other way round
 pub roots-within : (values : List Value) (slots : Slots) (a : Assignment)
-    → AllByRecursion (RootHas values a) (roots_of 0 slots) → Within (assigned values slots) a
+    → AllByRecursion (RootHas values a) (roots_of 0 slots) → IsWithin (assigned values slots) a
 roots-within values slots a all v x has =
-    let got = option-some values (slice_get slots v.0) x
-    (sym (slice_get-map (option_map (λ (id : ValueId). at values id.0)) slots v.0) ∙ has) in
+    let slot = slot-has values slots v x has in
     let start : 0 + v.0 ≡ v.0 = omega arith in
-    subst (λ k. slice_get a k ≡ Some (Some (at values got.0.0))) start
-    (within-of-roots values 0 slots a all v.0 got.0 got.1)
-    ∙ ap (λ y. Some (Some y)) got.2
+    subst (λ k. slice_get a k ≡ Some (Some (at values slot.id.0))) start
+    (within-of-roots values 0 slots a all v.0 slot.id slot.stands)
+    ∙ ap (λ y. Some (Some y)) slot.value
 
 pub within-roots : (values : List Value) (slots : Slots) (a : Assignment)
-    → Within (assigned values slots) a → AllByRecursion (RootHas values a) (roots_of 0 slots)
+    → IsWithin (assigned values slots) a → AllByRecursion (RootHas values a) (roots_of 0 slots)
 within-roots values slots a within =
     roots-of-within values 0 slots a (λ i id e.
     let start : i ≡ 0 + i = omega arith in
     subst (λ k. slice_get a k ≡ Some (Some (at values id.0))) start
-    (within (record { 0 = i }) (at values id.0) (asked-get values slots i id e)))
+    (within (record { 0 = i }) (at values id.0)
+    (has-slot values slots (record { 0 = i }) id e)))
 
 -- the roots are those of a body of as many variables
 pub roots-vars : (n total : ℕ) (slots : Slots) → n + length slots ≤ total
@@ -110,7 +103,7 @@ roots-vars n total (None ∷ slots) within = roots-vars (n + 1) total slots (ome
 roots-vars n total (Some id ∷ slots) within =
     (omega arith, roots-vars (n + 1) total slots (omega arith))
 
-pub roots-ids : (n len : ℕ) (slots : Slots) → AreKnownSlots len slots
+pub roots-ids : (n len : ℕ) (slots : Slots) → AreKnownIds len slots
     → AllByRecursion (λ (root : VarId × ValueId). root.1.0 < len) (roots_of n slots)
 roots-ids n len [] known = tt
 roots-ids n len (None ∷ slots) known = roots-ids (n + 1) len slots (λ i id e. known (suc i) id e)
@@ -118,13 +111,13 @@ roots-ids n len (Some id ∷ slots) known =
     (known 0 id refl, roots-ids (n + 1) len slots (λ i id e. known (suc i) id e))
 
 pub none-known : (len : ℕ) (slots : Slots) → AllByRecursion (λ slot. slot ≡ None) slots
-    → AreKnownSlots len slots
+    → AreKnownIds len slots
 none-known len [] all i id e = cc
 none-known len (slot ∷ slots) all zero id e = let none : slot ≡ None = all.0 in cc
 none-known len (slot ∷ slots) all (suc i) id e = none-known len slots all.1 i id e
 
 pub none-within : (values : List Value) (slots : Slots) → AllByRecursion (λ slot. slot ≡ None) slots
-    → (a : Assignment) → Within (assigned values slots) a
+    → (a : Assignment) → IsWithin (assigned values slots) a
 none-within values slots all a = roots-within values slots a (empty 0 slots all) where
   empty : (n : ℕ) (slots : Slots) → AllByRecursion (λ slot. slot ≡ None) slots
       → AllByRecursion (RootHas values a) (roots_of n slots)

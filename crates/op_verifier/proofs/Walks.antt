@@ -1,5 +1,5 @@
 -- What is left of a list at a place.
-use Rattle.std.proofs.Common.{◌≡◌, ℕ, zero, suc, ◌+◌, ◌-◌, ◌<◌, ◌≤◌, List, [], ◌∷◌}
+use Rattle.std.proofs.Common.{◌≡◌, ◌↔◌, ℕ, zero, suc, ◌+◌, ◌-◌, ◌<◌, ◌≤◌, List, [], ◌∷◌}
 use Rattle.std.proofs.Common.{Some, slice_get, take, drop, ap, sym, ◌∙◌, subst, arith}
 use Rattle.std.proofs.Common.{add-one, option_map}
 use Rattle.std.proofs.lemmas.Option.{slice_get-map}
@@ -57,3 +57,18 @@ pub all-get : {X : Type 0} (P : X → Type 0) (xs : List X) (i : ℕ) (x : X) �
 all-get P [] i x all e = cc
 all-get P (y ∷ ys) zero x all e = let same : y ≡ x = cc in subst P same all.0
 all-get P (y ∷ ys) (suc i) x all e = all-get P ys i x all.1 e
+
+-- one element that fails decides that not all pass
+pub all-fails : {X : Type 0} (P : X → Type 0) (xs : List X) (i : ℕ) (x : X)
+    → slice_get xs i ≡ Some x → (P x → ⊥) → AllByRecursion P xs → ⊥
+all-fails P xs i x e fails all = fails (all-get P xs i x all e)
+
+-- one that passes leaves the ones behind it
+pub all-step : {X : Type 0} (P : X → Type 0) (xs : List X) (i : ℕ) (x : X)
+    → slice_get xs i ≡ Some x → P x → (AllByRecursion P xs ↔ AllByRecursion P (drop i xs))
+    → AllByRecursion P xs ↔ AllByRecursion P (drop (i + 1) xs)
+all-step P xs i x e passes left =
+    let next = drop-next xs i x e in (
+      λ all. (subst (AllByRecursion P) next (left.0 all)).1,
+      λ rest. left.1 (subst (AllByRecursion P) (sym next) (passes, rest)),
+    )

@@ -3,5 +3,4 @@ pub mod Sound
 pub mod Asked
 pub mod Parts
 pub mod Types
-pub mod Keys
 pub mod Meets

@@ -12,7 +12,7 @@
 --   operand_types m site           the types of the operands at a site
 --   HasIds len m                   types and attributes of the module are values of a table of len
 use Rattle.std.specs.Prelude.{ℕ, List, [], ◌∷◌, length, map, slice_index_or}
-use Rattle.std.specs.List.{AllByRecursion}
+use Rattle.std.specs.List.{AllByRecursion, zip}
 use Rattle.attr_value.specs.declared.head.ValueId.{ValueId}
 use Rattle.attr_value.specs.Ids.{at, AreKnown}
 use Rattle.attr_value.specs.Values.{Value}
@@ -31,9 +31,7 @@ values_at values ids = map (λ id. at values id.0) ids
 
 -- each key with the value at its place
 abbrev pub attrs_seen : List Value → List (List ℕ) → List ValueId → Attrs
-attrs_seen values [] ids = []
-attrs_seen values (key ∷ keys) [] = []
-attrs_seen values (key ∷ keys) (id ∷ ids) = (key, at values id.0) ∷ attrs_seen values keys ids
+attrs_seen values keys ids = zip keys (values_at values ids)
 
 -- for each block the types of its arguments
 abbrev pub blocks_seen : List Value → Blocks OpName ValueId → List (List Value)

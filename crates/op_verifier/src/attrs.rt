@@ -1,6 +1,7 @@
 //! The attributes of an operation.
 
 ghost use Rattle.std.specs.Prelude.{◌≡◌, length, option_copied};
+ghost use Rattle.std.specs.List.{zip};
 ghost use Rattle.std.specs.Ordering.{nat_cmp};
 ghost use Rattle.std.specs.Cmp.Lexicographic.{slice_cmp};
 ghost use Rattle.attr_value.specs.Heads.{Ascend};
@@ -8,7 +9,6 @@ ghost use Rattle.attr_value.specs.Ids.{AreKnown};
 ghost use Rattle.dialect_defs.specs.Operations.{attr_at, given_sizes, sizes_of_head};
 ghost use Rattle.ir_store.specs.Named.{AttrsAreRight};
 ghost use Rattle.ir_store.specs.Store.{head_of};
-ghost use Rattle.op_verifier.specs.Keys.{id_of_key};
 ghost use Rattle.op_verifier.specs.Seen.{attrs_seen};
 
 use attr_uniquer::Uniquer;
@@ -27,7 +27,7 @@ fn compare(own: &Text, key: &[u8]) -> Ordering
 fn id_of(keys: &[Text], values: &[ValueId], key: &[u8]) -> Option<ValueId>
     requires ascend { Ascend keys.now }
     requires counts { length values.now ≡ length keys.now }
-    ensures { result ≡ id_of_key keys.now values.now key.now }
+    ensures { result ≡ attr_at (zip keys.now values.now) key.now }
 {
     match keys.binary_search_by(|own| compare(own, key)) {
         Ok(i) => Some(values[i]),
@@ -38,7 +38,7 @@ fn id_of(keys: &[Text], values: &[ValueId], key: &[u8]) -> Option<ValueId>
 /// The value of the attribute of a key, if the operation has one.
 pub(crate) fn attribute(row: &OpRow, key: &[u8]) -> Option<ValueId>
     requires { AttrsAreRight (head_of row.now) }
-    ensures { result ≡ id_of_key row.now.keys row.now.values key.now }
+    ensures { result ≡ attr_at (zip row.now.keys row.now.values) key.now }
 {
     id_of(row.keys.as_slice(), row.values.as_slice(), key)
 }

@@ -9,7 +9,8 @@ ghost use Rattle.dialect_defs.specs.Operations.{EntriesHave, AttrHas, attr_at};
 ghost use Rattle.dialect_defs.specs.Segments.{parts};
 ghost use Rattle.ir_store.specs.Named.{AttrsAreRight};
 ghost use Rattle.ir_store.specs.Store.{head_of};
-ghost use Rattle.op_verifier.specs.Asked.{AreKnownSlots, Asks, Refuses};
+ghost use Rattle.constraint_solver.specs.Roots.{AreKnownIds};
+ghost use Rattle.op_verifier.specs.Asked.{Asked};
 ghost use Rattle.op_verifier.specs.Parts.{HasSegments};
 ghost use Rattle.op_verifier.specs.Seen.{values_at, attrs_seen};
 ghost use Rattle.op_verifier.specs.Sound.{EntriesAreBelow, AttrsAreBelow};
@@ -26,15 +27,12 @@ use segment_match::sizes;
 impl Wanted {
     /// Asks the types from `start` to `end` of a variable.
     fn ask_all(&mut self, u: &Uniquer, var: VarId, types: &Types, start: usize, end: usize) -> bool
-        requires slots { AreKnownSlots (length u.now) self.old.slots.items }
+        requires slots { AreKnownIds (length u.now) self.old.slots.items }
         requires var { var.0 < length self.old.slots.items }
         requires known { AreKnown (length u.now) (ids_of types.now) }
         requires order { start ≤ end }
         requires within { end ≤ length (ids_of types.now) }
-        ensures asks { IsTrue result → Asks u.now self.old.slots.items self.new.slots.items
-            (λ a. AllByRecursion (Has a var)
-            (take (end - start) (drop start (values_at u.now (ids_of types.now))))) }
-        ensures refuses { result ≡ false → Refuses u.now self.old.slots.items
+        ensures { Asked u.now self.old.slots.items self.new.slots.items result
             (λ a. AllByRecursion (Has a var)
             (take (end - start) (drop start (values_at u.now (ids_of types.now))))) }
     {
@@ -54,16 +52,13 @@ impl Wanted {
         sizes: &[usize],
         types: &Types,
     ) -> bool
-        requires slots { AreKnownSlots (length u.now) self.old.slots.items }
+        requires slots { AreKnownIds (length u.now) self.old.slots.items }
         requires vars { EntriesAreBelow (length self.old.slots.items) entries.now }
         requires known { AreKnown (length u.now) (ids_of types.now) }
         requires count { length sizes.now ≡ length entries.now }
         requires total { sum sizes.now ≡ length (ids_of types.now) }
         requires fits { length (ids_of types.now) < 2 ^ 64 }
-        ensures asks { IsTrue result → Asks u.now self.old.slots.items self.new.slots.items
-            (λ a. EntriesHave a entries.now
-            (parts sizes.now (values_at u.now (ids_of types.now)))) }
-        ensures refuses { result ≡ false → Refuses u.now self.old.slots.items
+        ensures { Asked u.now self.old.slots.items self.new.slots.items result
             (λ a. EntriesHave a entries.now
             (parts sizes.now (values_at u.now (ids_of types.now)))) }
     {
@@ -86,14 +81,11 @@ impl Wanted {
         types: &Types,
         given: Option<&[i64]>,
     ) -> bool
-        requires slots { AreKnownSlots (length u.now) self.old.slots.items }
+        requires slots { AreKnownIds (length u.now) self.old.slots.items }
         requires vars { EntriesAreBelow (length self.old.slots.items) entries.now }
         requires few { length entries.now ≤ ENTRY_LIMIT }
         requires known { AreKnown (length u.now) (ids_of types.now) }
-        ensures asks { IsTrue result → Asks u.now self.old.slots.items self.new.slots.items
-            (λ a. HasSegments a entries.now (values_at u.now (ids_of types.now))
-            (option_copied given.entry)) }
-        ensures refuses { result ≡ false → Refuses u.now self.old.slots.items
+        ensures { Asked u.now self.old.slots.items self.new.slots.items result
             (λ a. HasSegments a entries.now (values_at u.now (ids_of types.now))
             (option_copied given.entry)) }
     {
@@ -105,14 +97,11 @@ impl Wanted {
 
     /// Asks an attribute's value of its entry's variable. One that is missing has to be optional.
     fn ask_attr(&mut self, u: &Uniquer, entry: &AttrEntry, row: &OpRow) -> bool
-        requires slots { AreKnownSlots (length u.now) self.old.slots.items }
+        requires slots { AreKnownIds (length u.now) self.old.slots.items }
         requires var { entry.now.var.0 < length self.old.slots.items }
         requires attrs { AttrsAreRight (head_of row.now) }
         requires known { AreKnown (length u.now) row.now.values }
-        ensures asks { IsTrue result → Asks u.now self.old.slots.items self.new.slots.items
-            (λ a. AttrHas a entry.now (attr_at
-            (attrs_seen u.now row.now.keys row.now.values) entry.now.name)) }
-        ensures refuses { result ≡ false → Refuses u.now self.old.slots.items
+        ensures { Asked u.now self.old.slots.items self.new.slots.items result
             (λ a. AttrHas a entry.now (attr_at
             (attrs_seen u.now row.now.keys row.now.values) entry.now.name)) }
     {
@@ -125,15 +114,11 @@ impl Wanted {
     /// Asks each attribute's value of its entry's variable. Those that are missing have to be
     /// optional.
     pub(crate) fn ask_attrs(&mut self, u: &Uniquer, entries: &[AttrEntry], row: &OpRow) -> bool
-        requires slots { AreKnownSlots (length u.now) self.old.slots.items }
+        requires slots { AreKnownIds (length u.now) self.old.slots.items }
         requires vars { AttrsAreBelow (length self.old.slots.items) entries.now }
         requires attrs { AttrsAreRight (head_of row.now) }
         requires known { AreKnown (length u.now) row.now.values }
-        ensures asks { IsTrue result → Asks u.now self.old.slots.items self.new.slots.items
-            (λ a. AllByRecursion (λ entry. AttrHas a entry (attr_at
-            (attrs_seen u.now row.now.keys row.now.values) entry.name))
-            entries.now) }
-        ensures refuses { result ≡ false → Refuses u.now self.old.slots.items
+        ensures { Asked u.now self.old.slots.items self.new.slots.items result
             (λ a. AllByRecursion (λ entry. AttrHas a entry (attr_at
             (attrs_seen u.now row.now.keys row.now.values) entry.name))
             entries.now) }

@@ -10,16 +10,16 @@
 
 mod attrs;
 mod entries;
-mod judge;
 mod operands;
+mod operations;
 mod parts;
 mod regions;
 mod roots;
 mod sound;
 mod wanted;
 
-pub use judge::{OpPlace, meets, verify};
-pub use sound::{are_sound_ops, can_judge};
+pub use operations::{OpPlace, meets, verify};
+pub use sound::{are_known, are_sound_ops, can_judge, has_ids};
 
 #[cfg(test)]
 mod tests;

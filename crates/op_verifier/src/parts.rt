@@ -8,7 +8,8 @@ ghost use Rattle.dialect_defs.specs.Operations.{operand_sizes_key, result_sizes_
 ghost use Rattle.ir_store.specs.Named.{op_at, AttrsAreRight};
 ghost use Rattle.ir_store.specs.Numbering.{ops_in};
 ghost use Rattle.ir_store.specs.Store.{head_of};
-ghost use Rattle.op_verifier.specs.Asked.{AreKnownSlots, Asks, Refuses};
+ghost use Rattle.constraint_solver.specs.Roots.{AreKnownIds};
+ghost use Rattle.op_verifier.specs.Asked.{Asked};
 ghost use Rattle.op_verifier.specs.Parts.{HasSegments, HasParts};
 ghost use Rattle.op_verifier.specs.Seen.{HasIds, operation_seen, values_at, attrs_seen};
 ghost use Rattle.op_verifier.specs.Sound.{EntriesAreBelow, NamesAreBelow};
@@ -24,17 +25,13 @@ use ir_store::{OpId, OpRow, Store};
 impl Wanted {
     /// Asks the types of the operands of their entries' variables.
     fn ask_operands(&mut self, u: &Uniquer, entries: &[Entry], row: &OpRow, types: &Types) -> bool
-        requires slots { AreKnownSlots (length u.now) self.old.slots.items }
+        requires slots { AreKnownIds (length u.now) self.old.slots.items }
         requires vars { EntriesAreBelow (length self.old.slots.items) entries.now }
         requires few { length entries.now ≤ ENTRY_LIMIT }
         requires attrs { AttrsAreRight (head_of row.now) }
         requires known { AreKnown (length u.now) row.now.values }
         requires types { AreKnown (length u.now) (ids_of types.now) }
-        ensures asks { IsTrue result → Asks u.now self.old.slots.items self.new.slots.items
-            (λ a. HasSegments a entries.now (values_at u.now (ids_of types.now)) (given_sizes
-            (attr_at
-            (attrs_seen u.now row.now.keys row.now.values) operand_sizes_key))) }
-        ensures refuses { result ≡ false → Refuses u.now self.old.slots.items
+        ensures { Asked u.now self.old.slots.items self.new.slots.items result
             (λ a. HasSegments a entries.now (values_at u.now (ids_of types.now)) (given_sizes
             (attr_at
             (attrs_seen u.now row.now.keys row.now.values) operand_sizes_key))) }
@@ -45,17 +42,13 @@ impl Wanted {
 
     /// Asks the types of the results of their entries' variables.
     fn ask_results(&mut self, u: &Uniquer, entries: &[Entry], row: &OpRow) -> bool
-        requires slots { AreKnownSlots (length u.now) self.old.slots.items }
+        requires slots { AreKnownIds (length u.now) self.old.slots.items }
         requires vars { EntriesAreBelow (length self.old.slots.items) entries.now }
         requires few { length entries.now ≤ ENTRY_LIMIT }
         requires attrs { AttrsAreRight (head_of row.now) }
         requires known { AreKnown (length u.now) row.now.values }
         requires types { AreKnown (length u.now) row.now.results.items }
-        ensures asks { IsTrue result → Asks u.now self.old.slots.items self.new.slots.items
-            (λ a. HasSegments a entries.now (values_at u.now row.now.results.items)
-            (given_sizes (attr_at
-            (attrs_seen u.now row.now.keys row.now.values) result_sizes_key))) }
-        ensures refuses { result ≡ false → Refuses u.now self.old.slots.items
+        ensures { Asked u.now self.old.slots.items self.new.slots.items result
             (λ a. HasSegments a entries.now (values_at u.now row.now.results.items)
             (given_sizes (attr_at
             (attrs_seen u.now row.now.keys row.now.values) result_sizes_key))) }
@@ -74,16 +67,13 @@ impl Wanted {
         op: OpId,
         types: &Types,
     ) -> bool
-        requires slots { AreKnownSlots (length u.now) self.old.slots.items }
+        requires slots { AreKnownIds (length u.now) self.old.slots.items }
         requires names { NamesAreBelow (length self.old.slots.items) def.now }
         requires ids { HasIds (length u.now) store.now }
         requires types { AreKnown (length u.now) (ids_of types.now) }
         requires op { op.0 < length (ops_in store.now) }
-        ensures asks { ForSome (op_at store.now op) (λ x. IsTrue result
-            → Asks u.now self.old.slots.items self.new.slots.items
-            (HasParts def.now (operation_seen u.now (ids_of types.now) x))) }
-        ensures refuses { ForSome (op_at store.now op) (λ x. result ≡ false
-            → Refuses u.now self.old.slots.items
+        ensures { ForSome (op_at store.now op) (λ x.
+            Asked u.now self.old.slots.items self.new.slots.items result
             (HasParts def.now (operation_seen u.now (ids_of types.now) x))) }
     {
         let row = store.op(op);

@@ -11,7 +11,8 @@ ghost use Rattle.ir_store.specs.Named.{op_at, region_at, AreBlocks};
 ghost use Rattle.ir_store.specs.Numbering.{Numbers, ops_in, regions_in};
 ghost use Rattle.ir_store.specs.Store.{OpName};
 ghost use Rattle.attr_value.specs.declared.head.ValueId.{ValueId as Id};
-ghost use Rattle.op_verifier.specs.Asked.{AreKnownSlots, Asks, Refuses};
+ghost use Rattle.constraint_solver.specs.Roots.{AreKnownIds};
+ghost use Rattle.op_verifier.specs.Asked.{Asked};
 ghost use Rattle.op_verifier.specs.Parts.{types_from};
 ghost use Rattle.op_verifier.specs.Seen.{values_at, blocks_seen, regions_seen};
 ghost use Rattle.op_verifier.specs.Sound.{RegionsAreBelow};
@@ -26,14 +27,11 @@ impl Wanted {
     /// Asks the types of as many values as there are variables, from the number `first` on, each
     /// of the variable at its place.
     fn ask_each(&mut self, u: &Uniquer, vars: &[VarId], store: &Store, first: usize) -> bool
-        requires slots { AreKnownSlots (length u.now) self.old.slots.items }
+        requires slots { AreKnownIds (length u.now) self.old.slots.items }
         requires vars { AreBelow (length self.old.slots.items) vars.now }
         requires known { AreKnown (length u.now) (types_in store.now) }
         requires there { (i : ℕ) → i < length vars.now → first + i < length (types_in store.now) }
-        ensures asks { IsTrue result → Asks u.now self.old.slots.items self.new.slots.items
-            (λ a. HaveEach a vars.now
-            (values_at u.now (types_from store.now first (length vars.now)))) }
-        ensures refuses { result ≡ false → Refuses u.now self.old.slots.items
+        ensures { Asked u.now self.old.slots.items self.new.slots.items result
             (λ a. HaveEach a vars.now
             (values_at u.now (types_from store.now first (length vars.now)))) }
     {
@@ -50,16 +48,13 @@ impl Wanted {
     /// Asks that the first block has as many arguments as there are variables, and their types of
     /// these. Where there is no block, there have to be no variables.
     fn ask_args(&mut self, u: &Uniquer, vars: &[VarId], store: &Store, blocks: &[BlockId]) -> bool
-        requires slots { AreKnownSlots (length u.now) self.old.slots.items }
+        requires slots { AreKnownIds (length u.now) self.old.slots.items }
         requires vars { AreBelow (length self.old.slots.items) vars.now }
         requires known { AreKnown (length u.now) (types_in store.now) }
         requires blocks { (c : Numbers) × (bs : Blocks OpName Id)
             × AreBlocks store.now c blocks.now bs }
-        ensures asks { (c : Numbers) (bs : Blocks OpName Id) → AreBlocks store.now c blocks.now bs
-            → IsTrue result → Asks u.now self.old.slots.items self.new.slots.items
-            (λ a. ArgsHave a (Some vars.now) (blocks_seen u.now bs)) }
-        ensures refuses { (c : Numbers) (bs : Blocks OpName Id)
-            → AreBlocks store.now c blocks.now bs → result ≡ false → Refuses u.now self.old.slots.items
+        ensures { (c : Numbers) (bs : Blocks OpName Id) → AreBlocks store.now c blocks.now bs
+            → Asked u.now self.old.slots.items self.new.slots.items result
             (λ a. ArgsHave a (Some vars.now) (blocks_seen u.now bs)) }
     {
         let Some(block) = blocks.first() else {
@@ -80,15 +75,12 @@ impl Wanted {
         store: &Store,
         region: RegionId,
     ) -> bool
-        requires slots { AreKnownSlots (length u.now) self.old.slots.items }
+        requires slots { AreKnownIds (length u.now) self.old.slots.items }
         requires vars { IfSome entry.now.args (AreBelow (length self.old.slots.items)) }
         requires known { AreKnown (length u.now) (types_in store.now) }
         requires region { region.0 < length (regions_in store.now) }
-        ensures asks { ForSome (region_at store.now region) (λ x.
-            IsTrue result → Asks u.now self.old.slots.items self.new.slots.items
-            (λ a. RegionHas a entry.now (blocks_seen u.now x.blocks))) }
-        ensures refuses { ForSome (region_at store.now region) (λ x.
-            result ≡ false → Refuses u.now self.old.slots.items
+        ensures { ForSome (region_at store.now region) (λ x.
+            Asked u.now self.old.slots.items self.new.slots.items result
             (λ a. RegionHas a entry.now (blocks_seen u.now x.blocks))) }
     {
         let blocks = store.blocks_of(region);
@@ -110,15 +102,12 @@ impl Wanted {
         store: &Store,
         op: OpId,
     ) -> bool
-        requires slots { AreKnownSlots (length u.now) self.old.slots.items }
+        requires slots { AreKnownIds (length u.now) self.old.slots.items }
         requires vars { RegionsAreBelow (length self.old.slots.items) entries.now }
         requires known { AreKnown (length u.now) (types_in store.now) }
         requires op { op.0 < length (ops_in store.now) }
-        ensures asks { ForSome (op_at store.now op) (λ x.
-            IsTrue result → Asks u.now self.old.slots.items self.new.slots.items
-            (λ a. RegionsHave a entries.now (regions_seen u.now x.regions))) }
-        ensures refuses { ForSome (op_at store.now op) (λ x.
-            result ≡ false → Refuses u.now self.old.slots.items
+        ensures { ForSome (op_at store.now op) (λ x.
+            Asked u.now self.old.slots.items self.new.slots.items result
             (λ a. RegionsHave a entries.now (regions_seen u.now x.regions))) }
     {
         let regions = store.regions_of(op);

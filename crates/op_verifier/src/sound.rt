@@ -9,26 +9,15 @@ ghost use Rattle.ir_store.specs.Modules.{types_in};
 ghost use Rattle.ir_store.specs.Named.{op_at};
 ghost use Rattle.ir_store.specs.Numbering.{ops_in};
 ghost use Rattle.op_verifier.specs.Meets.{IsJudgeable, CanJudge};
+ghost use Rattle.op_verifier.specs.Seen.{HasIds};
 ghost use Rattle.op_verifier.specs.Sound.{EntriesAreBelow, AttrsAreBelow, RegionsAreBelow};
 ghost use Rattle.op_verifier.specs.Sound.{NamesAreBelow, IsSoundOp, AreSoundOps};
 
 use crate::operands::type_of;
 use attr_value::ValueId;
-use constraint_solver::is_sound_body;
-use dialect_defs::{AttrEntry, ENTRY_LIMIT, Entry, OpDef, RegionEntry, VarId};
+use constraint_solver::{are_below, is_sound_body};
+use dialect_defs::{AttrEntry, ENTRY_LIMIT, Entry, OpDef, RegionEntry};
 use ir_store::{OpId, Store};
-
-/// Whether each variable has a number below `n`.
-fn are_below(n: usize, vars: &[VarId]) -> bool
-    ensures { IsTrue result ↔ AreBelow n vars.now }
-{
-    for var in vars {
-        if var.0 >= n {
-            return false;
-        }
-    }
-    true
-}
 
 /// Whether each entry names one of the first `n` variables.
 fn are_entries_below(n: usize, entries: &[Entry]) -> bool
@@ -109,8 +98,8 @@ pub fn are_sound_ops(defs: &[OpDef], len: usize, count: usize) -> bool
     true
 }
 
-/// Whether each id is that of one of `len` values.
-fn are_known(len: usize, ids: &[ValueId]) -> bool
+/// Whether each id is that of one of `len` values. It takes no memory.
+pub fn are_known(len: usize, ids: &[ValueId]) -> bool
     ensures { IsTrue result ↔ AreKnown len ids.now }
 {
     for id in ids {
@@ -173,6 +162,35 @@ fn has_types(store: &Store, len: usize) -> bool
 {
     for i in 0..store.values() {
         if type_of(store, i).0 >= len {
+            return false;
+        }
+    }
+    true
+}
+
+/// Whether `meets` takes a module, over a table of `len` values: the types of its values and the
+/// values of its attributes are in the table. It takes no memory.
+pub fn has_ids(store: &Store, len: usize) -> bool
+    ensures { IsTrue result ↔ HasIds len store.now }
+{
+    has_types(store, len) && has_attrs(store, len)
+}
+
+/// Whether an operation's attributes have values of a table of `len`.
+fn has_attrs_at(store: &Store, op: OpId, len: usize) -> bool
+    requires { op.0 < length (ops_in store.now) }
+    ensures { ForSome (op_at store.now op) (λ x. IsTrue result ↔ AreKnown len x.head.values) }
+{
+    are_known(len, store.op(op).values.as_slice())
+}
+
+/// Whether the attributes of each operation do.
+fn has_attrs(store: &Store, len: usize) -> bool
+    ensures { IsTrue result
+        ↔ AllByRecursion (λ site. AreKnown len site.head.values) (ops_in store.now) }
+{
+    for i in 0..store.op_count() {
+        if !has_attrs_at(store, OpId(i), len) {
             return false;
         }
     }

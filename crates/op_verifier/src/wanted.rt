@@ -4,7 +4,8 @@ ghost use Rattle.std.specs.Prelude.{◌≡◌, ◌<◌, ◌≤◌, length, map, 
 ghost use Rattle.std.specs.List.{AllByRecursion};
 ghost use Rattle.attr_value.specs.Ids.{at, AreKnown};
 ghost use Rattle.dialect_defs.specs.Assignments.{Has, HaveEach};
-ghost use Rattle.op_verifier.specs.Asked.{AreKnownSlots, Asks, Refuses};
+ghost use Rattle.constraint_solver.specs.Roots.{AreKnownIds};
+ghost use Rattle.op_verifier.specs.Asked.{Asked};
 
 use arrayvec::ArrayVec;
 use attr_uniquer::Uniquer;
@@ -33,12 +34,10 @@ impl Wanted {
 
     /// Asks a value of a variable. Whether no other was asked of it before.
     pub(crate) fn ask(&mut self, u: &Uniquer, var: VarId, id: ValueId) -> bool
-        requires known { AreKnownSlots (length u.now) self.old.slots.items }
+        requires known { AreKnownIds (length u.now) self.old.slots.items }
         requires var { var.0 < length self.old.slots.items }
         requires id { id.0 < length u.now }
-        ensures asks { IsTrue result → Asks u.now self.old.slots.items self.new.slots.items
-            (λ a. Has a var (at u.now id.0)) }
-        ensures refuses { result ≡ false → Refuses u.now self.old.slots.items
+        ensures { Asked u.now self.old.slots.items self.new.slots.items result
             (λ a. Has a var (at u.now id.0)) }
     {
         match self.slots[var.0] {

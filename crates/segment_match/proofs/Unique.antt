@@ -21,6 +21,7 @@ use Rattle.segment_match.specs.Spread.{flexible, looseness, size_at, spread}
 sum-cons : (n : ℕ) (ns : List ℕ) → sum (n ∷ ns) ≡ n + sum ns
 sum-cons n ns = sum_by-cons (λ x. x) n ns
 
+-- there is a size for each entry
 pub FitEach-length : (es : List Entry) (s : List ℕ) → FitEach es s → length s ≡ length es
 FitEach-length [] [] h = refl
 FitEach-length (e ∷ es) (n ∷ ns) h = ap suc (FitEach-length es ns h.1)

@@ -1,6 +1,7 @@
 use Rattle.std.proofs.Common.{◌<◌, refl, arith}
 use Rattle.constraint_solver.proofs.Filled.{all-at}
 use Rattle.constraint_solver.specs.Roots.{assigned}
+use Rattle.constraint_solver.proofs.Given.{Forces-true, Forces-false}
 use Rattle.constraint_solver.proofs.Loops.{all-more, all-forced, all-refuted}
 use Rattle.constraint_solver.proofs.assign.assign_all.Goals as goal
 
@@ -19,17 +20,18 @@ loop-var-preserved c =
           c.loop-var.invariant.filled (c.if-not-assign.ensures.forced refl);
     }
 
-pub returns-then-not-assign-clause-refuted : goal.returns-then-not-assign-clause-refuted
-returns-then-not-assign-clause-refuted c = λ is.
+pub returns-then-not-assign : goal.returns-then-not-assign
+returns-then-not-assign c =
     let u = c.args.u.now in
     let old = assigned u c.args.slots.now.ids in
-    all-refuted u c.args.n old c.args.vars.now c.args.id (assigned u c.loop-var.slots.ids)
+    Forces-false (all-refuted u c.args.n old c.args.vars.now c.args.id (assigned u c.loop-var.slots.ids)
     c.loop-var.var-index c.loop-var-test.true c.loop-var.invariant.filled
-    (c.if-not-assign.ensures.refuted refl)
+    (c.if-not-assign.ensures.refuted refl))
 
-pub returns-clause-forced : goal.returns-clause-forced
-returns-clause-forced c = λ is.
+pub returns : goal.returns
+returns c =
     let u = c.args.u.now in
     let old = assigned u c.args.slots.now.ids in
-    all-forced u c.args.n old c.args.vars.now c.args.id (assigned u c.loop-var.slots.ids)
-    c.loop-var.var-index (omega arith) c.loop-var.invariant.filled
+    Forces-true (all-forced u c.args.n old c.args.vars.now c.args.id (assigned u c.loop-var.slots.ids)
+    c.loop-var.var-index (omega arith) c.loop-var.invariant.filled)
+    c.loop-var.invariant.known

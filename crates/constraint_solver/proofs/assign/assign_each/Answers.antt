@@ -1,6 +1,7 @@
 use Rattle.std.proofs.Common.{◌<◌, refl, arith, length}
 use Rattle.constraint_solver.proofs.Filled.{all-at, known-at}
 use Rattle.constraint_solver.specs.Roots.{assigned}
+use Rattle.constraint_solver.proofs.Given.{Forces-true, Forces-false}
 use Rattle.constraint_solver.proofs.Loops.{each-more, each-forced, each-refuted}
 use Rattle.constraint_solver.proofs.assign.assign_each.Goals as goal
 
@@ -23,16 +24,17 @@ loop-i-preserved c =
           c.loop-i-test.true c.loop-i.invariant.filled (c.if-not-assign.ensures.forced refl);
     }
 
-pub returns-then-not-assign-clause-refuted : goal.returns-then-not-assign-clause-refuted
-returns-then-not-assign-clause-refuted c = λ is.
+pub returns-then-not-assign : goal.returns-then-not-assign
+returns-then-not-assign c =
     let u = c.args.u.now in
     let old = assigned u c.args.slots.now.ids in
-    each-refuted u c.args.n old c.args.vars.now c.args.kids.now (assigned u c.loop-i.slots.ids)
-    c.loop-i.i c.loop-i-test.true c.loop-i.invariant.filled (c.if-not-assign.ensures.refuted refl)
+    Forces-false (each-refuted u c.args.n old c.args.vars.now c.args.kids.now (assigned u c.loop-i.slots.ids)
+    c.loop-i.i c.loop-i-test.true c.loop-i.invariant.filled (c.if-not-assign.ensures.refuted refl))
 
-pub returns-clause-forced : goal.returns-clause-forced
-returns-clause-forced c = λ is.
+pub returns : goal.returns
+returns c =
     let u = c.args.u.now in
     let old = assigned u c.args.slots.now.ids in
-    each-forced u c.args.n old c.args.vars.now c.args.kids.now (assigned u c.loop-i.slots.ids)
-    c.loop-i.i c.requires.lengths (omega arith) c.loop-i.invariant.filled
+    Forces-true (each-forced u c.args.n old c.args.vars.now c.args.kids.now (assigned u c.loop-i.slots.ids)
+    c.loop-i.i c.requires.lengths (omega arith) c.loop-i.invariant.filled)
+    c.loop-i.invariant.known

@@ -6,6 +6,7 @@ use Rattle.dialect_defs.specs.Goodness.{vars_of}
 use Rattle.constraint_solver.specs.Search.{Forced, Refuted}
 use Rattle.constraint_solver.proofs.Filled.{all-at, known-at, id_at, var_at, param-at, length-vars}
 use Rattle.constraint_solver.specs.Roots.{assigned}
+use Rattle.constraint_solver.proofs.Given.{Forces-true, Forces-false}
 use Rattle.constraint_solver.proofs.Loops.{each-more, each-forced, each-refuted}
 use Rattle.constraint_solver.proofs.assign.assign_params.Goals as goal
 
@@ -46,22 +47,23 @@ loop-i-preserved c =
           c.index-params-i.is) (c.if-not-assign.ensures.forced refl));
     }
 
-pub returns-then-not-assign-clause-refuted : goal.returns-then-not-assign-clause-refuted
-returns-then-not-assign-clause-refuted c = λ is.
+pub returns-then-not-assign : goal.returns-then-not-assign
+returns-then-not-assign c =
     let u = c.args.u.now in
     let old = assigned u c.args.slots.now.ids in
-    each-refuted u c.args.n old (vars_of c.args.params.now) c.args.kids.now
+    Forces-false (each-refuted u c.args.n old (vars_of c.args.params.now) c.args.kids.now
     (assigned u c.loop-i.slots.ids) c.loop-i.i
     (within-vars c.args.params.now c.loop-i.i c.loop-i-test.true) c.loop-i.invariant.filled
     (subst (λ v. Refuted (assigned u c.loop-i.slots.ids)
     (λ a. Has a v (at u (id_at c.args.kids.now c.loop-i.i).0)))
     (var-is c.args.params.now c.loop-i.i c.index-params-i.result c.loop-i-test.true
-    c.index-params-i.is) (c.if-not-assign.ensures.refuted refl))
+    c.index-params-i.is) (c.if-not-assign.ensures.refuted refl)))
 
-pub returns-clause-forced : goal.returns-clause-forced
-returns-clause-forced c = λ is.
+pub returns : goal.returns
+returns c =
     let u = c.args.u.now in
     let old = assigned u c.args.slots.now.ids in
-    each-forced u c.args.n old (vars_of c.args.params.now) c.args.kids.now
+    Forces-true (each-forced u c.args.n old (vars_of c.args.params.now) c.args.kids.now
     (assigned u c.loop-i.slots.ids) c.loop-i.i (length-vars c.args.params.now ∙ c.requires.lengths)
-    (omega (arith, length-vars c.args.params.now, c.loop-i-test.false)) c.loop-i.invariant.filled
+    (omega (arith, length-vars c.args.params.now, c.loop-i-test.false)) c.loop-i.invariant.filled)
+    c.loop-i.invariant.known

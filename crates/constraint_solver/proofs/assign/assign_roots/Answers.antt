@@ -1,6 +1,7 @@
 use Rattle.std.proofs.Common.{◌<◌, refl, arith, length}
 use Rattle.constraint_solver.proofs.Filled.{all-at}
 use Rattle.constraint_solver.specs.Roots.{assigned}
+use Rattle.constraint_solver.proofs.Given.{Forces-true, Forces-false}
 use Rattle.constraint_solver.proofs.Loops.{roots-more, roots-forced, roots-refuted}
 use Rattle.constraint_solver.proofs.assign.assign_roots.Goals as goal
 
@@ -25,17 +26,18 @@ loop-root-preserved c =
           c.loop-root.invariant.filled (c.if-not-assign.ensures.forced refl);
     }
 
-pub returns-then-not-assign-clause-refuted : goal.returns-then-not-assign-clause-refuted
-returns-then-not-assign-clause-refuted c = λ is.
+pub returns-then-not-assign : goal.returns-then-not-assign
+returns-then-not-assign c =
     let u = c.args.u.now in
     let old = assigned u c.args.slots.now.ids in
-    roots-refuted u c.args.n old c.args.roots.now (assigned u c.loop-root.slots.ids)
+    Forces-false (roots-refuted u c.args.n old c.args.roots.now (assigned u c.loop-root.slots.ids)
     c.loop-root.root-index c.loop-root-test.true c.loop-root.invariant.filled
-    (c.if-not-assign.ensures.refuted refl)
+    (c.if-not-assign.ensures.refuted refl))
 
-pub returns-clause-forced : goal.returns-clause-forced
-returns-clause-forced c = λ is.
+pub returns : goal.returns
+returns c =
     let u = c.args.u.now in
     let old = assigned u c.args.slots.now.ids in
-    roots-forced u c.args.n old c.args.roots.now (assigned u c.loop-root.slots.ids)
-    c.loop-root.root-index (omega arith) c.loop-root.invariant.filled
+    Forces-true (roots-forced u c.args.n old c.args.roots.now (assigned u c.loop-root.slots.ids)
+    c.loop-root.root-index (omega arith) c.loop-root.invariant.filled)
+    c.loop-root.invariant.known

@@ -3,20 +3,21 @@ use Rattle.std.specs.List.{AllByRecursion}
 use Rattle.dialect_defs.specs.Assignments.{Has}
 use Rattle.op_verifier.specs.Seen.{values_at}
 use Rattle.op_verifier.specs.Types.{ids_of}
-use Rattle.op_verifier.proofs.Asking.{rest-step, rest-refused, rest-end}
+use Rattle.op_verifier.proofs.Asking.{rest-step, rest-refused, rest-end, Asked-true}
+use Rattle.op_verifier.proofs.Asking.{Asked-false}
 use Rattle.op_verifier.proofs.Walks.{take-next, take-none, value-at, known-at}
 use Rattle.op_verifier.proofs.wanted.Wanted.ask_all.Goals as goal
 
 pub ask-requires-clause-id : goal.ask-requires-clause-id
 ask-requires-clause-id c = known-at _ _ c.loop-i.i _ c.requires.known c.get.ensures
 
-pub returns-then-not-ask-clause-refuses : goal.returns-then-not-ask-clause-refuses
-returns-then-not-ask-clause-refuses c =
+pub returns-then-not-ask : goal.returns-then-not-ask
+returns-then-not-ask c =
     let next = take-next (values_at c.args.u.now (ids_of c.args.types.now)) c.loop-i.i c.args.end _
     (value-at c.args.u.now _ c.loop-i.i _ c.get.ensures) c.loop-i-test.true in
-    λ no. rest-refused c.loop-i.invariant
+    Asked-false (rest-refused c.loop-i.invariant
     (λ a all. (subst (AllByRecursion (Has a c.args.var)) next all).0)
-    (c.if-not-ask.ensures.refuses refl)
+    (c.if-not-ask.ensures.refuses refl))
 
 pub loop-i-preserved : goal.loop-i-preserved
 loop-i-preserved c =
@@ -27,9 +28,9 @@ loop-i-preserved c =
     (λ a here later. subst (AllByRecursion (Has a c.args.var)) (sym next) (here, later))
     (c.if-not-ask.ensures.asks refl)
 
-pub returns-clause-asks : goal.returns-clause-asks
-returns-clause-asks c =
+pub returns : goal.returns
+returns c =
     let none = take-none (drop c.loop-i.i (values_at c.args.u.now (ids_of c.args.types.now)))
     c.loop-i.i c.args.end c.loop-i-test.false in
-    λ yes. rest-end c.loop-i.invariant
-    (λ a. subst (AllByRecursion (Has a c.args.var)) (sym none) tt)
+    Asked-true (rest-end c.loop-i.invariant
+    (λ a. subst (AllByRecursion (Has a c.args.var)) (sym none) tt))

@@ -6,7 +6,8 @@ use Rattle.dialect_defs.specs.declared.entry.AttrEntry.{AttrEntry}
 use Rattle.dialect_defs.specs.Assignments.{Assignment}
 use Rattle.dialect_defs.specs.Operations.{AttrHas, attr_at}
 use Rattle.op_verifier.specs.Seen.{attrs_seen}
-use Rattle.op_verifier.proofs.Asking.{rest-step, rest-refused, rest-end}
+use Rattle.op_verifier.proofs.Asking.{rest-step, rest-refused, rest-end, Asked-true}
+use Rattle.op_verifier.proofs.Asking.{Asked-false}
 use Rattle.op_verifier.proofs.Walks.{drop-next, all-get}
 use Rattle.op_verifier.proofs.wanted.Wanted.ask_attrs.Goals as goal
 
@@ -17,16 +18,16 @@ ask_attr-requires-clause-var c =
     let below = all-get _ c.args.entries.now c.loop-entry.entry-index _ c.requires.vars entry in
     omega (arith, below, c.loop-entry.invariant.size)
 
-pub returns-then-not-ask_attr-clause-refuses : goal.returns-then-not-ask_attr-clause-refuses
-returns-then-not-ask_attr-clause-refuses c =
+pub returns-then-not-ask_attr : goal.returns-then-not-ask_attr
+returns-then-not-ask_attr c =
     let Met : Assignment → AttrEntry → Type 0 = λ a entry. AttrHas a entry (attr_at
     (attrs_seen c.args.u.now c.args.row.now.keys c.args.row.now.values) entry.name) in
     let next = drop-next c.args.entries.now c.loop-entry.entry-index c.entry-item.result
     (slice_get_read c.args.entries.now _ c.loop-entry.entry-index c.entry-item.result
     refl c.loop-entry-test.true c.entry-item.is) in
-    λ no. rest-refused c.loop-entry.invariant
+    Asked-false (rest-refused c.loop-entry.invariant
     (λ a all. (subst (AllByRecursion (Met a)) next all).0)
-    (c.if-not-ask_attr.ensures.refuses refl)
+    (c.if-not-ask_attr.ensures.refuses refl))
 
 pub loop-entry-preserved : goal.loop-entry-preserved
 loop-entry-preserved c =
@@ -40,11 +41,11 @@ loop-entry-preserved c =
     (λ a here later. subst (AllByRecursion (Met a)) (sym next) (here, later))
     (c.if-not-ask_attr.ensures.asks refl)
 
-pub returns-clause-asks : goal.returns-clause-asks
-returns-clause-asks c =
+pub returns : goal.returns
+returns c =
     let Met : Assignment → AttrEntry → Type 0 = λ a entry. AttrHas a entry (attr_at
     (attrs_seen c.args.u.now c.args.row.now.keys c.args.row.now.values) entry.name) in
     let none = drop_of_length-le c.args.entries.now {i = c.loop-entry.entry-index}
     c.loop-entry-test.false in
-    λ yes. rest-end c.loop-entry.invariant
-    (λ a. subst (AllByRecursion (Met a)) (sym none) tt)
+    Asked-true (rest-end c.loop-entry.invariant
+    (λ a. subst (AllByRecursion (Met a)) (sym none) tt))

@@ -3,7 +3,8 @@ use Rattle.std.proofs.Math.ListN.{drop_of_length-le}
 use Rattle.std.proofs.lemmas.Option.{slice_get_read, slice_get-get_or}
 use Rattle.op_verifier.specs.Seen.{values_at}
 use Rattle.op_verifier.specs.Types.{ids_of}
-use Rattle.op_verifier.proofs.Asking.{rest-step, rest-refused, rest-end}
+use Rattle.op_verifier.proofs.Asking.{rest-step, rest-refused, rest-end, Asked-true}
+use Rattle.op_verifier.proofs.Asking.{Asked-false}
 use Rattle.op_verifier.proofs.PartSteps.{segment-first, segment-joined, sum-next, all-entries}
 use Rattle.op_verifier.proofs.wanted.Wanted.ask_entries.Goals as goal
 
@@ -17,16 +18,16 @@ ask_all-requires-clause-within c =
     let size = slice_get-get_or c.args.sizes.now c.loop-i.i 0 (omega arith) in
     omega (arith, sum-next c.args.sizes.now c.loop-i.i _ size)
 
-pub returns-then-not-ask_all-clause-refuses : goal.returns-then-not-ask_all-clause-refuses
-returns-then-not-ask_all-clause-refuses c =
+pub returns-then-not-ask_all : goal.returns-then-not-ask_all
+returns-then-not-ask_all c =
     let entry = slice_get_read c.args.entries.now _ c.loop-i.i c.index-entries-i.result
     refl c.loop-i-test.true c.index-entries-i.is in
     let size = slice_get-get_or c.args.sizes.now c.loop-i.i 0 (omega arith) in
     let vs = values_at c.args.u.now (ids_of c.args.types.now) in
-    λ no. rest-refused c.loop-i.invariant.rest
+    Asked-false (rest-refused c.loop-i.invariant.rest
     (λ a have. (segment-first c.args.entries.now c.args.sizes.now vs c.loop-i.i c.loop-i.start
     c.index-entries-i.result _ a entry size have).0)
-    (c.if-not-ask_all.ensures.refuses refl)
+    (c.if-not-ask_all.ensures.refuses refl))
 
 pub loop-i-preserved : goal.loop-i-preserved
 loop-i-preserved c =
@@ -44,10 +45,10 @@ loop-i-preserved c =
           (c.if-not-ask_all.ensures.asks refl);
     }
 
-pub returns-clause-asks : goal.returns-clause-asks
-returns-clause-asks c =
+pub returns : goal.returns
+returns c =
     let past : length c.args.sizes.now ≤ c.loop-i.i = omega arith in
-    λ yes. rest-end c.loop-i.invariant.rest
+    Asked-true (rest-end c.loop-i.invariant.rest
     (λ a. all-entries a c.args.entries.now c.args.sizes.now c.loop-i.i _
     (drop_of_length-le c.args.entries.now {i = c.loop-i.i} c.loop-i-test.false)
-    (drop_of_length-le c.args.sizes.now {i = c.loop-i.i} past))
+    (drop_of_length-le c.args.sizes.now {i = c.loop-i.i} past)))

@@ -1,22 +1,14 @@
 use Rattle.std.proofs.Common.{subst}
-use Rattle.op_verifier.specs.Asked.{Asks, Refuses}
+use Rattle.op_verifier.specs.Asked.{Asked}
 use Rattle.op_verifier.specs.Parts.{HasSegments}
 use Rattle.op_verifier.specs.Seen.{values_at}
 use Rattle.op_verifier.specs.Types.{ids_of}
 use Rattle.op_verifier.proofs.wanted.Wanted.ask_operands.Goals as goal
 
-pub returns-clause-asks : goal.returns-clause-asks
-returns-clause-asks c =
-    λ yes. subst
-    (λ given. Asks c.args.u.now c.args.self.now.slots.items c.ask_segments.new.self.slots.items
-    (λ a. HasSegments a c.args.entries.now
+pub returns : goal.returns
+returns c =
+    subst
+    (λ given. Asked c.args.u.now c.args.self.now.slots.items c.ask_segments.new.self.slots.items
+    c.ask_segments.result (λ a. HasSegments a c.args.entries.now
     (values_at c.args.u.now (ids_of c.args.types.now)) given))
-    c.sizes_given-given.ensures (c.ask_segments.ensures.asks yes)
-
-pub returns-clause-refuses : goal.returns-clause-refuses
-returns-clause-refuses c =
-    λ no. subst
-    (λ given. Refuses c.args.u.now c.args.self.now.slots.items
-    (λ a. HasSegments a c.args.entries.now
-    (values_at c.args.u.now (ids_of c.args.types.now)) given))
-    c.sizes_given-given.ensures (c.ask_segments.ensures.refuses no)
+    c.sizes_given-given.ensures c.ask_segments.ensures

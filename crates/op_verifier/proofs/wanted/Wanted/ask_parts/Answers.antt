@@ -1,14 +1,15 @@
-use Rattle.std.proofs.Common.{◌∙◌, ap, sym, subst, refl, length}
+use Rattle.std.proofs.Common.{◌∙◌, ap, sym, subst, refl, length, false}
 use Rattle.attr_value.specs.Ids.{AreKnown}
 use Rattle.ir_store.specs.Numbering.{ops_in}
 use Rattle.ir_store.specs.Store.{StoredHead, head_of}
 use Rattle.ir_store.proofs.Inside.{op-placed}
-use Rattle.op_verifier.specs.Asked.{Asks, Refuses}
+use Rattle.op_verifier.specs.Asked.{Asked}
 use Rattle.op_verifier.specs.Parts.{HasParts}
 use Rattle.op_verifier.specs.Seen.{Site, operation}
 use Rattle.op_verifier.specs.Types.{ids_of}
+use Rattle.op_verifier.proofs.Asking.{Asked-false}
 use Rattle.op_verifier.proofs.AllParts.{operands-refuse, results-refuse}
-use Rattle.op_verifier.proofs.AllParts.{attrs-refuse, regions-refuse, parts-ask, types-known}
+use Rattle.op_verifier.proofs.AllParts.{attrs-refuse, parts-asked, types-known}
 use Rattle.op_verifier.proofs.RegionSteps.{an-element}
 use Rattle.op_verifier.proofs.Walks.{all-get}
 use Rattle.op_verifier.proofs.wanted.Wanted.ask_parts.Goals as goal
@@ -38,66 +39,53 @@ ask_attrs-requires-clause-known c =
     subst (λ (h : StoredHead). AreKnown (length c.args.u.now) h.values) (c.op-row.ensures.head x.0 x.1)
     (all-get _ (ops_in c.args.store.now) c.args.op.0 x.0 c.requires.ids.attrs x.1)
 
-pub returns-then-not-ask_operands-clause-refuses : goal.returns-then-not-ask_operands-clause-refuses
-returns-then-not-ask_operands-clause-refuses c =
+pub returns-then-not-ask_operands : goal.returns-then-not-ask_operands
+returns-then-not-ask_operands c =
     let o = λ (x : Site). operation c.args.u.now (ids_of c.args.types.now)
     (head_of c.op-row.result.now) x.regions in
-    λ x e no. subst (λ (h : StoredHead). Refuses c.args.u.now c.args.self.now.slots.items
+    λ x e. subst (λ (h : StoredHead). Asked c.args.u.now c.args.self.now.slots.items
+    c.ask_operands.new.self.slots.items false
     (HasParts c.args.def.now (operation c.args.u.now (ids_of c.args.types.now) h x.regions)))
     (sym (c.op-row.ensures.head x e))
-    (operands-refuse c.args.u.now c.args.def.now (o x) c.args.self.now.slots.items
+    (Asked-false (operands-refuse c.args.u.now c.args.def.now (o x) c.args.self.now.slots.items
     c.args.self.now.slots.items
     c.args.self.now.slots.items
     c.args.self.now.slots.items
-    (rw c.as_slice-2.ensures at (c.if-not-ask_operands.ensures.refuses refl)))
+    (rw c.as_slice-2.ensures at (c.if-not-ask_operands.ensures.refuses refl))))
 
-pub returns-then-not-ask_results-clause-refuses : goal.returns-then-not-ask_results-clause-refuses
-returns-then-not-ask_results-clause-refuses c =
-    let o = λ (x : Site). operation c.args.u.now (ids_of c.args.types.now)
-    (head_of c.op-row.result.now) x.regions in
-    let first = rw c.as_slice-2.ensures at (c.if-not-ask_operands.ensures.asks refl) in
-    λ x e no. subst (λ (h : StoredHead). Refuses c.args.u.now c.args.self.now.slots.items
-    (HasParts c.args.def.now (operation c.args.u.now (ids_of c.args.types.now) h x.regions)))
-    (sym (c.op-row.ensures.head x e))
-    (results-refuse c.args.u.now c.args.def.now (o x) c.args.self.now.slots.items
-    c.ask_operands.new.self.slots.items
-    c.ask_operands.new.self.slots.items
-    c.args.self.now.slots.items
-    first (rw c.as_slice-3.ensures at (c.if-not-ask_results.ensures.refuses refl)))
-
-pub returns-then-not-ask_attrs-clause-refuses : goal.returns-then-not-ask_attrs-clause-refuses
-returns-then-not-ask_attrs-clause-refuses c =
+pub returns-then-not-ask_results : goal.returns-then-not-ask_results
+returns-then-not-ask_results c =
     let o = λ (x : Site). operation c.args.u.now (ids_of c.args.types.now)
     (head_of c.op-row.result.now) x.regions in
     let first = rw c.as_slice-2.ensures at (c.if-not-ask_operands.ensures.asks refl) in
-    let second = rw c.as_slice-3.ensures at (c.if-not-ask_results.ensures.asks refl) in
-    λ x e no. subst (λ (h : StoredHead). Refuses c.args.u.now c.args.self.now.slots.items
+    λ x e. subst (λ (h : StoredHead). Asked c.args.u.now c.args.self.now.slots.items
+    c.ask_results.new.self.slots.items false
     (HasParts c.args.def.now (operation c.args.u.now (ids_of c.args.types.now) h x.regions)))
     (sym (c.op-row.ensures.head x e))
-    (attrs-refuse c.args.u.now c.args.def.now (o x) c.args.self.now.slots.items
+    (Asked-false (results-refuse c.args.u.now c.args.def.now (o x) c.args.self.now.slots.items
     c.ask_operands.new.self.slots.items
-    c.ask_results.new.self.slots.items
-    c.ask_results.new.self.slots.items
-    first second (rw c.as_slice-4.ensures at (c.if-not-ask_attrs.ensures.refuses refl)))
+    c.ask_operands.new.self.slots.items
+    c.args.self.now.slots.items
+    first (rw c.as_slice-3.ensures at (c.if-not-ask_results.ensures.refuses refl))))
 
-pub returns-clause-refuses : goal.returns-clause-refuses
-returns-clause-refuses c =
+pub returns-then-not-ask_attrs : goal.returns-then-not-ask_attrs
+returns-then-not-ask_attrs c =
     let o = λ (x : Site). operation c.args.u.now (ids_of c.args.types.now)
     (head_of c.op-row.result.now) x.regions in
     let first = rw c.as_slice-2.ensures at (c.if-not-ask_operands.ensures.asks refl) in
     let second = rw c.as_slice-3.ensures at (c.if-not-ask_results.ensures.asks refl) in
-    let third = rw c.as_slice-4.ensures at (c.if-not-ask_attrs.ensures.asks refl) in
-    λ x e no. subst (λ (h : StoredHead). Refuses c.args.u.now c.args.self.now.slots.items
+    λ x e. subst (λ (h : StoredHead). Asked c.args.u.now c.args.self.now.slots.items
+    c.ask_attrs.new.self.slots.items false
     (HasParts c.args.def.now (operation c.args.u.now (ids_of c.args.types.now) h x.regions)))
     (sym (c.op-row.ensures.head x e))
-    (regions-refuse c.args.u.now c.args.def.now (o x) c.args.self.now.slots.items
+    (Asked-false (attrs-refuse c.args.u.now c.args.def.now (o x) c.args.self.now.slots.items
     c.ask_operands.new.self.slots.items
     c.ask_results.new.self.slots.items
-    c.ask_attrs.new.self.slots.items
-    first second third (rw c.as_slice-5.ensures at (c.ask_regions.ensures.refuses x e no)))
+    c.ask_results.new.self.slots.items
+    first second (rw c.as_slice-4.ensures at (c.if-not-ask_attrs.ensures.refuses refl))))
 
-pub returns-clause-asks : goal.returns-clause-asks
-returns-clause-asks c =
+pub returns : goal.returns
+returns c =
     let o = λ (x : Site). operation c.args.u.now (ids_of c.args.types.now)
     (head_of c.op-row.result.now) x.regions in
     let first = rw c.as_slice-2.ensures at (c.if-not-ask_operands.ensures.asks refl) in
@@ -105,13 +93,13 @@ returns-clause-asks c =
     let third = rw c.as_slice-4.ensures at (c.if-not-ask_attrs.ensures.asks refl) in
     let successors =
     sym c.len.ensures.value ∙ c.if-len-as_slice.false ∙ ap length c.as_slice.ensures in
-    λ x e yes. subst (λ (h : StoredHead). Asks c.args.u.now c.args.self.now.slots.items
-    c.ask_regions.new.self.slots.items
+    λ x e. subst (λ (h : StoredHead). Asked c.args.u.now c.args.self.now.slots.items
+    c.ask_regions.new.self.slots.items c.ask_regions.result
     (HasParts c.args.def.now (operation c.args.u.now (ids_of c.args.types.now) h x.regions)))
     (sym (c.op-row.ensures.head x e))
-    (parts-ask c.args.u.now c.args.def.now (o x) c.args.self.now.slots.items
+    (parts-asked c.args.u.now c.args.def.now (o x) c.args.self.now.slots.items
     c.ask_operands.new.self.slots.items
     c.ask_results.new.self.slots.items
     c.ask_attrs.new.self.slots.items
-    c.ask_regions.new.self.slots.items successors first second third
-    (rw c.as_slice-5.ensures at (c.ask_regions.ensures.asks x e yes)))
+    c.ask_regions.new.self.slots.items c.ask_regions.result successors first second third
+    (rw c.as_slice-5.ensures at (c.ask_regions.ensures x e)))

@@ -8,7 +8,7 @@ use Rattle.op_verifier.specs.Seen.{operation_seen}
 use Rattle.op_verifier.specs.Types.{ids_of}
 use Rattle.op_verifier.proofs.RegionSteps.{an-element}
 use Rattle.op_verifier.proofs.Judging.{refused, solved, unsolved, roots-sound, decided}
-use Rattle.op_verifier.proofs.judge.judge.Goals as goal
+use Rattle.op_verifier.proofs.operations.judge.Goals as goal
 
 pub returns-then-not-ask_parts : goal.returns-then-not-ask_parts
 returns-then-not-ask_parts g c =
@@ -17,20 +17,20 @@ returns-then-not-ask_parts g c =
       λ yes. absurd (cc yes),
       λ m. absurd (refused c.args.u.now says c.args.def.now
           (operation_seen c.args.u.now (ids_of c.args.types.now) x) c.new-wanted.result.slots.items
-          c.new-wanted.ensures.none (c.if-not-ask_parts.ensures.refuses x e refl) m),
+          c.new-wanted.ensures.none ((c.if-not-ask_parts.ensures x e).refuses refl) m),
     )
 
 pub roots-roots-requires : goal.roots-roots-requires
 roots-roots-requires g c =
     let x = an-element (ops_in c.args.store.now) c.args.op.0 c.requires.op in
-    let asks = c.if-not-ask_parts.ensures.asks x.0 x.1 refl in
+    let asks = (c.if-not-ask_parts.ensures x.0 x.1).asks refl in
     let vars = ap length c.as_slice.ensures in
     omega (arith, asks.size, vars, c.new-wanted.ensures.size, c.requires.def.body.few)
 
 pub solve-requires-clause-roots : goal.solve-requires-clause-roots
 solve-requires-clause-roots g c =
     let x = an-element (ops_in c.args.store.now) c.args.op.0 c.requires.op in
-    let asks = c.if-not-ask_parts.ensures.asks x.0 x.1 refl in
+    let asks = (c.if-not-ask_parts.ensures x.0 x.1).asks refl in
     roots-sound (length c.args.u.now) c.args.def.now.body c.ask_parts.new.self.slots.items
     c.as_slice-2.result.now (c.as_slice-2.ensures ∙ c.roots-roots.ensures.items)
     (asks.size ∙ c.new-wanted.ensures.size ∙ ap length c.as_slice.ensures) asks.known
@@ -41,7 +41,7 @@ returns g c =
     let roots = c.as_slice-2.ensures ∙ c.roots-roots.ensures.items in
     λ x e.
     let o = operation_seen c.args.u.now (ids_of c.args.types.now) x in
-    let asks = c.if-not-ask_parts.ensures.asks x e refl in
+    let asks = (c.if-not-ask_parts.ensures x e).asks refl in
     decided c.solve.result c.is_some.result (MeetsBody c.args.u.now says c.args.def.now.body)
     (HasRoots c.args.u.now c.as_slice-2.result.now)
     (MeetsDefinition c.args.u.now says c.args.def.now o) c.args.u.now c.is_some.ensures

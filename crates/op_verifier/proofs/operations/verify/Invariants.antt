@@ -4,7 +4,7 @@ use Rattle.ir_store.specs.declared.rows.OpId.{OpId}
 use Rattle.native_predicate.specs.Lists.{tests}
 use Rattle.op_verifier.specs.Meets.{MeetsStored}
 use Rattle.op_verifier.specs.Seen.{Site}
-use Rattle.op_verifier.proofs.judge.verify.Given as goal
+use Rattle.op_verifier.proofs.operations.verify.Given as goal
 
 -- the operations before meet their definitions
 abbrev pub invariant-loop-i : goal.invariant-loop-i

@@ -6,7 +6,7 @@ use Rattle.op_verifier.specs.Seen.{operation_seen}
 use Rattle.op_verifier.proofs.Judging.{named-meets, same-answer}
 use Rattle.op_verifier.proofs.RegionSteps.{an-element}
 use Rattle.op_verifier.proofs.Walks.{all-get}
-use Rattle.op_verifier.proofs.judge.meets.Goals as goal
+use Rattle.op_verifier.proofs.operations.meets.Goals as goal
 
 pub judge-requires-clause-def : goal.judge-requires-clause-def
 judge-requires-clause-def g c =

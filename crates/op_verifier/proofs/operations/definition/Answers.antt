@@ -2,7 +2,7 @@ use Rattle.std.proofs.Common.{◌≡◌, ◌<◌, sym, subst, length, slice_get,
 use Rattle.ir_store.specs.Numbering.{ops_in}
 use Rattle.ir_store.specs.Store.{StoredHead}
 use Rattle.op_verifier.proofs.RegionSteps.{an-element}
-use Rattle.op_verifier.proofs.judge.definition.Goals as goal
+use Rattle.op_verifier.proofs.operations.definition.Goals as goal
 
 pub definition_at-requires : goal.definition_at-requires
 definition_at-requires c =

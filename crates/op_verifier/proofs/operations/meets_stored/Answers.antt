@@ -9,7 +9,7 @@ use Rattle.op_verifier.specs.Seen.{operation_seen, type_in, operand_types}
 use Rattle.op_verifier.proofs.Judging.{named-meets, operands-known}
 use Rattle.op_verifier.proofs.RegionSteps.{an-element}
 use Rattle.op_verifier.proofs.Walks.{all-get}
-use Rattle.op_verifier.proofs.judge.meets_stored.Goals as goal
+use Rattle.op_verifier.proofs.operations.meets_stored.Goals as goal
 
 pub definition-def-requires-clause-named : goal.definition-def-requires-clause-named
 definition-def-requires-clause-named g c = λ x e. (c.requires.judgeable x e).def

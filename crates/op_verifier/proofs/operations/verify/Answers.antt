@@ -7,7 +7,7 @@ use Rattle.ir_store.specs.Store.{StoredHead}
 use Rattle.op_verifier.proofs.Judging.{judge-ids}
 use Rattle.op_verifier.proofs.RegionSteps.{an-element}
 use Rattle.op_verifier.proofs.Walks.{all-get}
-use Rattle.op_verifier.proofs.judge.verify.Goals as goal
+use Rattle.op_verifier.proofs.operations.verify.Goals as goal
 
 pub meets_stored-requires-clause-ids : goal.meets_stored-requires-clause-ids
 meets_stored-requires-clause-ids g c = judge-ids _ _ c.args.store.now c.requires.module
