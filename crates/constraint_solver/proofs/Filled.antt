@@ -19,6 +19,7 @@ all-at P [] k d within all = absurd (omega arith)
 all-at P (x ∷ xs) zero d within all = all.0
 all-at P (x ∷ xs) (suc k) d within all = all-at P xs k d (omega arith) all.1
 
+-- what holds at each place holds of each item
 pub all-from : {X : Type 0} (P : X → Type 0) (xs : List X) (d : X)
     → ((k : ℕ) → k < length xs → P (get_or xs k d)) → AllByRecursion P xs
 all-from P [] d each = tt
@@ -29,12 +30,15 @@ all-from P (x ∷ xs) d each =
 abbrev pub var_at : List VarId → ℕ → VarId
 var_at vars k = get_or vars k (record { 0 = 0 })
 
+-- the id at a place
 abbrev pub id_at : List ValueId → ℕ → ValueId
 id_at ids k = get_or ids k (record { 0 = 0 })
 
+-- the root at a place
 abbrev pub root_at : List (VarId × ValueId) → ℕ → VarId × ValueId
 root_at roots k = get_or roots k (record { 0 = 0 }, record { 0 = 0 })
 
+-- the id at a place is known where all are
 pub known-at : (n : ℕ) (ids : List ValueId) (k : ℕ) → k < length ids → AreKnown n ids
     → (id_at ids k).0 < n
 known-at n [] k within known = absurd (omega arith)
@@ -53,6 +57,7 @@ have-lengths a (v ∷ vars) (x ∷ xs) have = ap suc (have-lengths a vars xs hav
 abbrev pub Have : (V : ℕ → VarId) (X : ℕ → Value) (len : ℕ) → Assignment → Type 0
 Have V X len a = (k : ℕ) → k < len → Has a (V k) (X k)
 
+-- variables that have the values at their places have them one by one
 pub have-from : (values : List Value) (vars : List VarId) (ids : List ValueId) (a : Assignment)
     → length vars ≡ length ids
     → Have (var_at vars) (λ k. at values (id_at ids k).0) (length vars) a
@@ -65,6 +70,7 @@ have-from values (v ∷ vars) (id ∷ ids) a same have = (
   have-from values vars ids a (omega arith) (λ k within. have (suc k) (omega arith)),
 )
 
+-- and the other way round
 pub have-at : (values : List Value) (vars : List VarId) (ids : List ValueId) (a : Assignment)
     → HaveEach a vars (list_of (kids_at values ids))
     → Have (var_at vars) (λ k. at values (id_at ids k).0) (length vars) a
@@ -80,6 +86,7 @@ pub param-at : (params : List Entry) (k : ℕ) (d : Entry) → k < length params
 param-at params k d within =
     sym (get_or-map (λ p. p.var) params k d (record { 0 = 0 }) within)
 
+-- there are as many variables as parameters
 pub length-vars : (params : List Entry) → length (vars_of params) ≡ length params
 length-vars [] = refl
 length-vars (p ∷ params) = ap suc (length-vars params)
@@ -93,6 +100,7 @@ pub record Filled (n : ℕ) (old now : Assignment) (V : ℕ → VarId) (X : ℕ 
   pub above : SameFrom n old now
 
 module _ (n : ℕ) (old : Assignment) (V : ℕ → VarId) (X : ℕ → Value) (len : ℕ) where
+  -- before the first, none was given its value
   pub filled-none : Filled n old old V X len 0
   filled-none = record {
     grown = λ v x has. has;
@@ -101,6 +109,7 @@ module _ (n : ℕ) (old : Assignment) (V : ℕ → VarId) (X : ℕ → Value) (l
     above = λ v x from has. has;
   }
 
+  -- the next variable is given its value
   pub filled-more : (now next : Assignment) (i : ℕ) → i < len → Filled n old now V X len i
       → Forced n now next (λ a. Has a (V i) (X i)) → Filled n old next V X len (i + 1)
   filled-more now next i within f s = record {

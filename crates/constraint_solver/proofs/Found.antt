@@ -31,10 +31,12 @@ module _ (values : List Value) (tests : Tests) (body : Body) (n : ℕ) (empty : 
       let not : slice_index_or empty v.0 None ≡ None = none v.0 in
       cc
 
+  -- what no assignment above nothing has, no assignment has
   pub found-nothing : Refuted (assigned values empty) P → (a : Assignment) → P a → ⊥
   found-nothing r a p = r a (λ v x has. absurd (bare v x has)) p
 
   module _ (mid : Assignment) (f : Forced n (assigned values empty) mid P) where
+    -- where nothing more settles the variables, no assignment meets the body and has P
     pub found-none : Refuted mid (MeetsBelow n values tests body) → (a : Assignment)
         → MeetsBody values tests body a → P a → ⊥
     found-none r a met p = r a (f.least a (λ v x has. absurd (bare v x has)) p)
@@ -68,6 +70,7 @@ module _ (values : List Value) (tests : Tests) (body : Body) (n : ℕ) (empty : 
               let is : slice_index_or (take n ids) v.0 None ≡ Some slot.id = slot.stands in
               absurd cc
 
+      -- the values that are found meet the body
       pub found-meets : MeetsBody values tests body (assigned values (take n ids))
       found-meets = record {
         size = length-map (take n ids) (option_map (λ id. at values id.0)) ∙ firsts-is ∙ same;
@@ -77,11 +80,13 @@ module _ (values : List Value) (tests : Tests) (body : Body) (n : ℕ) (empty : 
             (back v x has));
       }
 
+      -- and have what was forced at first
       pub found-has : ((a b : Assignment) → IsWithin a b → P a → P b)
           → P (assigned values (take n ids))
       found-has grows = grows (assigned values ids) (assigned values (take n ids)) there
           (grows mid (assigned values ids) s.grown f.holds)
 
+-- the first of known ids are known
 pub known-take : (len n : ℕ) (ids : List (Option ValueId)) → AreKnownIds len ids
     → AreKnownIds len (take n ids)
 known-take len n ids known v id is = by (cases_lt v n)

@@ -52,6 +52,7 @@ module _ (values : List Value) where
     pub stands : slice_index_or ids v None ≡ Some id
     pub value : at values id.0 ≡ x
 
+  -- a value of a variable is that of its id
   pub slot-has : (ids : List (Option ValueId)) (v : VarId) (x : Value)
       → Has (assigned values ids) v x → SlotOf ids v.0 x
   slot-has ids v x has = by (slice_get ids v.0) refl
@@ -102,6 +103,7 @@ module _ (values : List Value) where
         let ids : id ≡ slot.id = cc in
         ap (λ i. at values i.0) ids ∙ slot.value
 
+    -- that value is the least that gives the variable its own
     pub forced-set : (n : ℕ) → v.0 < n
         → Forced n (assigned values ids) (assigned values (set ids v.0 (Some id)))
         (λ a. Has a v (at values id.0))

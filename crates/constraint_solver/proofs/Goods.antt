@@ -25,6 +25,7 @@ module _ (values : List Value) (tests : Tests) (types : List TypeDef) where
       abbrev Node : Type 0
       Node = IsGoodNode values tests types head (list_of (kids_at values ids))
 
+      -- a value with good kids that nests not too deep and keeps to its own rules is good
       pub is-good : HasGoodKids values tests types x → depth x ≤ DEPTH_LIMIT → Node
           → Good values tests types x
       is-good kids shallow node = record {
@@ -33,6 +34,7 @@ module _ (values : List Value) (tests : Tests) (types : List TypeDef) where
         kids = good-nodes x.kids kids.each;
       }
 
+      -- a good value keeps to its own rules
       pub node-of : Good values tests types x → Node
       node-of good = subst (λ y. IsGoodNode values tests types y.head (list_of y.kids)) is good.node
 

@@ -21,9 +21,11 @@ module _ (values : List Value) (tests : Tests) (is_type : Bool) (name : List ℕ
   pub record NotBefore (types : List TypeDef) (i : ℕ) : Type 0 where
     pub tried : (k : ℕ) (e : TypeDef) → k < i → k < length types → Serves (get_or types k e) → ⊥
 
+  -- before the first place there is none
   pub not-none : (types : List TypeDef) → NotBefore types 0
   not-none types = record { tried = λ k e before within serves. absurd (omega arith) }
 
+  -- a definition that doesn't serve leaves none before the next place
   pub not-more : (types : List TypeDef) (i : ℕ) (d : TypeDef) → d ≡ get_or types i d
       → (Serves d → ⊥) → NotBefore types i → NotBefore types (i + 1)
   not-more types i d is never n = record {

@@ -35,12 +35,14 @@ module _ (values : List Value) (n : ℕ) (old : Assignment) where
     abbrev AllHave : Assignment → Type 0
     AllHave a = AllByRecursion (λ v. Has a v (at values id.0)) vars
 
+    -- one more variable of the list has the value
     pub all-more : (now next : Assignment) (i : ℕ) → i < length vars
         → FilledAll values n old vars id now i
         → Forced n now next (λ a. Has a (var_at vars i) (at values id.0))
         → FilledAll values n old vars id next (i + 1)
     all-more = filled-more n old (var_at vars) (λ k. at values id.0) (length vars)
 
+    -- all variables have it
     pub all-forced : (now : Assignment) (i : ℕ) → length vars ≤ i
         → FilledAll values n old vars id now i → Forced n old now AllHave
     all-forced now i past = filled-forced n old (var_at vars) (λ k. at values id.0) (length vars)
@@ -49,6 +51,7 @@ module _ (values : List Value) (n : ℕ) (old : Assignment) where
         (λ a all k within.
         all-at (λ v. Has a v (at values id.0)) vars k (record { 0 = 0 }) within all)
 
+    -- one can't have it
     pub all-refuted : (now : Assignment) (i : ℕ) → i < length vars
         → FilledAll values n old vars id now i
         → Refuted now (λ a. Has a (var_at vars i) (at values id.0)) → Refuted old AllHave
@@ -61,6 +64,7 @@ module _ (values : List Value) (n : ℕ) (old : Assignment) where
     abbrev EachHas : Assignment → Type 0
     EachHas a = HaveEach a vars (list_of (kids_at values ids))
 
+    -- one more variable has the value at its place
     pub each-more : (now next : Assignment) (i : ℕ) → i < length vars
         → FilledEach values n old vars ids now i
         → Forced n now next (λ a. Has a (var_at vars i) (at values (id_at ids i).0))
@@ -68,12 +72,14 @@ module _ (values : List Value) (n : ℕ) (old : Assignment) where
     each-more =
         filled-more n old (var_at vars) (λ k. at values (id_at ids k).0) (length vars)
 
+    -- each variable has its value
     pub each-forced : (now : Assignment) (i : ℕ) → length vars ≡ length ids → length vars ≤ i
         → FilledEach values n old vars ids now i → Forced n old now EachHas
     each-forced now i same past = filled-forced n old (var_at vars)
         (λ k. at values (id_at ids k).0) (length vars) now i EachHas past
         (λ a have. have-from values vars ids a same have) (λ a have. have-at values vars ids a have)
 
+    -- one can't have its value
     pub each-refuted : (now : Assignment) (i : ℕ) → i < length vars
         → FilledEach values n old vars ids now i
         → Refuted now (λ a. Has a (var_at vars i) (at values (id_at ids i).0))
@@ -91,12 +97,14 @@ module _ (values : List Value) (n : ℕ) (old : Assignment) where
     abbrev valued : ℕ → Value
     valued k = at values (root_at roots k).1.0
 
+    -- the variable of one more root has its value
     pub roots-more : (now next : Assignment) (i : ℕ) → i < length roots
         → FilledRoots values n old roots now i
         → Forced n now next (λ a. Has a (variable i) (valued i))
         → FilledRoots values n old roots next (i + 1)
     roots-more = filled-more n old variable valued (length roots)
 
+    -- those of all roots have theirs
     pub roots-forced : (now : Assignment) (i : ℕ) → length roots ≤ i
         → FilledRoots values n old roots now i → Forced n old now (HasRoots values roots)
     roots-forced now i past = filled-forced n old variable valued (length roots) now i
@@ -105,6 +113,7 @@ module _ (values : List Value) (n : ℕ) (old : Assignment) where
         (λ a all k within.
         all-at (IsRoot a) roots k (record { 0 = 0 }, record { 0 = 0 }) within all)
 
+    -- that of one root can't have its value
     pub roots-refuted : (now : Assignment) (i : ℕ) → i < length roots
         → FilledRoots values n old roots now i
         → Refuted now (λ a. Has a (variable i) (valued i)) → Refuted old (HasRoots values roots)

@@ -39,6 +39,7 @@ all-grows : (a b : Assignment) (vs : List VarId) (x : Value) → IsWithin a b
 all-grows a b [] x grown have = tt
 all-grows a b (v ∷ vs) x grown have = (grown v x have.0, all-grows a b vs x grown have.1)
 
+-- a constraint that is kept stays kept as the assignment grows
 pub keeps-grows : (values : List Value) (tests : Tests) (c : Constraint) (a b : Assignment)
     (x : Value) → IsWithin a b → Keeps values tests a c x → Keeps values tests b c x
 keeps-grows values tests (Is id) a b x grown kept = kept
@@ -91,6 +92,7 @@ module _ (values : List Value) (tests : Tests) (body : Body) (v n : ℕ) (next :
           absurd (bare x (has-same old w here x (omega (arith, next, from, upto))
           (s.above w x from has)))
 
+  -- what no values below v can meet, none below n can
   pub skip-refuted : (old : Assignment) → Refuted old Below → Refuted old Upto
   skip-refuted old r a under met = r a under (fewer a met)
 
@@ -102,10 +104,12 @@ module _ (values : List Value) (tests : Tests) (body : Body) (v n : ℕ) (next :
     asks : (old a : Assignment) → Has old here x → IsWithin old a → Upto a → Kept a
     asks old a has under met = met here c x (omega (arith, next)) is (under here x has)
 
+    -- where the constraint can't be kept, the variables can't be settled
     pub kept-refuted : (old : Assignment) → Has old here x → Refuted old Kept
         → Refuted old Upto
     kept-refuted old has r a under met = r a under (asks old a has under met)
 
+    -- nor where, once it is kept, those before can't be
     pub then-refuted : (old mid : Assignment) → Has old here x → Forced v old mid Kept
         → Refuted mid Below → Refuted old Upto
     then-refuted old mid has f r a under met =

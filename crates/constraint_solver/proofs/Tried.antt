@@ -11,6 +11,7 @@ abbrev pub MemberRefuted : ℕ → List Value → Tests → Body → Assignment 
 MemberRefuted v values tests body old m x =
     Refuted old (λ a. Has a m x × MeetsBelow v values tests body a)
 
+-- a member whose value leaves the variables before unsettled is refused
 pub member-taken : (v : ℕ) (values : List Value) (tests : Tests) (body : Body)
     (old mid : Assignment) (m : VarId) (x : Value) → Forced v old mid (λ a. Has a m x)
     → Refuted mid (MeetsBelow v values tests body) → MemberRefuted v values tests body old m x

@@ -1,5 +1,6 @@
 -- What `good_head` is given, and when a value is an instance of one definition.
 --
+--   IsSoundDef len count d                    a body is sound, and the parameters are in it
 --   AreSoundDefs len count types              bodies are sound, and parameters are in their bodies
 --   HasGoodKids values tests types v          the kids of a value are good
 --   IsInstanceOf values tests d kids          some assignment of this definition gives its
@@ -17,6 +18,7 @@ pub record IsSoundDef (len count : ℕ) (d : TypeDef) : Type 0 where
   pub body : IsSoundBody len count d.body
   pub params : AreBelow (length d.body.vars) (vars_of d.params)
 
+-- each definition of a list is sound
 pub record AreSoundDefs (len count : ℕ) (types : List TypeDef) : Type 0 where
   pub each : AllByRecursion (IsSoundDef len count) types
 

@@ -1,3 +1,3 @@
 pub mod Roots
-pub mod Search
 pub mod Definitions
+pub mod Search

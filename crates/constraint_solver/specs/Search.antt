@@ -3,6 +3,7 @@
 -- The search settles variables from the last to the first. What one has asks something of earlier
 -- ones alone, so a constraint that was kept stays kept.
 --
+--   SameFrom n a b              the values of b from the variable n on are values of a
 --   Forced n old new P          new is the least assignment above old with the property P
 --   Refuted old P               no assignment above old has the property P
 --   Forces n .. old new took P  a call that gives values until P holds did so, or P can't be had

@@ -4,10 +4,13 @@
 -- a value keeps to its own constraint; one that has none asks nothing. Constants are ids of a
 -- table of values, which is `values` throughout, and predicates are numbers in a list of tests.
 --
+--   Tests                               what predicates say of values, by their numbers
+--   Passes tests i x                    the predicate of the number i is true of the value x
 --   Assignment                          a finite map from variables to values
 --   Has a v x                           the variable v has the value x
 --   HaveEach a vs xs                    the variables have these values, one by one
 --   IsWithin a b                        each value of the map a is a value of the map b
+--   IsOfRef base x                      the value x is of the kind that a definition names
 --   Keeps values tests a c x            a variable of the constraint c may have the value x
 --   MeetsBody values tests body a       each variable that has a value keeps to its constraint
 use Rattle.std.specs.Prelude.{◌≡◌, ℕ, Bool, false, IsTrue, List, [], ◌∷◌, length, Contains}

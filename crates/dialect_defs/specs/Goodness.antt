@@ -1,9 +1,13 @@
 -- Which values are good: they keep to the rules of their heads and to their dialects' definitions.
 --
+--   depth_limit                         how deep a value may nest
 --   IsDefinedAs types is_type name d    d is a definition of this kind and name
+--   vars_of entries                     the variables of some entries
 --   IsInstance .. kids                  some assignment of a definition gives its parameters the
 --                                       kids
+--   IsDefined .. head kids              it is so of each head that is a dialect's
 --   IsGoodNode .. head kids             a value of this head and these kids keeps to its own rules
+--   AreGoodNodes .. kids                all values of a list do, and all in them
 --   Good values tests types v           v and all values in it do, and v nests at most 64 deep
 use Rattle.std.specs.Prelude.{◌≡◌, ℕ, ◌≤◌, Bool, List, map, Contains}
 use Rattle.attr_value.specs.declared.head.TheConstants.{DEPTH_LIMIT}

@@ -4,6 +4,11 @@
 -- their blocks alone.
 --
 --   Operation                       an operation as its definition sees it
+--   Attrs, attr_at attrs key        attributes by their keys, and what stands with a key
+--   operand_sizes_key, result_sizes_key      the keys of the sizes of segments
+--   sizes_of_head, given_sizes      the sizes that a head, or an attribute, gives
+--   EntriesHave, AttrHas, ArgsHave, RegionHas, RegionsHave
+--                                   the parts of an operation have the values of their variables
 --   MeetsBy .. sizes assignment     it meets its definition by these sizes and this assignment
 --   MeetsDefinition .. d o          it does by some sizes and some assignment
 use Rattle.std.specs.Prelude.{◌≡◌, ℕ, true, List, [], ◌∷◌, length, IfSome, ℤ}
@@ -44,6 +49,7 @@ attr_at (attr ∷ attrs) key = if bytes_eq attr.0 key then Some attr.1 else attr
 abbrev pub operand_sizes_key : List ℕ
 operand_sizes_key = codes "operandSegmentSizes"
 
+-- the key of the attribute that gives the sizes of the results' segments
 abbrev pub result_sizes_key : List ℕ
 result_sizes_key = codes "resultSegmentSizes"
 

@@ -1,6 +1,8 @@
 -- How the operands or results of an operation fall into segments, one for each entry.
 --
 --   FitsArity arity n            an entry of this arity may stand for n values
+--   FitEach entries sizes        each size fits the entry at its place
+--   is_single arity              the arity is that of exactly one value
 --   needs_sizes entries          the sizes have to be given
 --   Segments entries n given s   s is a list of sizes of n values in all
 --   parts sizes xs               a list cut into parts of these sizes
@@ -26,6 +28,7 @@ FitEach (entry ∷ entries) (n ∷ sizes) = FitsArity entry.arity n × FitEach e
 FitEach [] (n ∷ sizes) = ⊥
 FitEach (entry ∷ entries) [] = ⊥
 
+-- the entry stands for exactly one value
 abbrev pub is_single : Arity → Bool
 is_single Single = true
 is_single _ = false

@@ -22,6 +22,7 @@ use Rattle.ir_store.proofs.Replay.{numbers-op, numbers-region, numbers-block, nu
 use Rattle.ir_store.proofs.Replay.{numbers-regions, numbers-blocks, twice-ops, twice-regions}
 use Rattle.ir_store.proofs.Replay.{twice-blocks, rows-made}
 
+-- an addition to a module of a store
 abbrev pub Adding : Type 0
 Adding = Addition OpName ValueId
 
@@ -82,6 +83,9 @@ this-block (to_block (Some b) more) n os inside s qs m f = elim (eqb_tells b.0 n
 ]
 
 mutual
+  -- the tables with operations, and then with an addition in one of their open places, are those
+  -- with
+  -- the operations after that addition
   pub add-ops : (os : Module) (a : Adding) (s : Rows) (b : Option BlockId) (c : Numbers)
       → numbers_of s ≡ c → IsOneOf (parent_of a) (open_ops c os)
       → act a (with_ops s b os) ≡ with_ops s b (added_ops a c os)
@@ -100,6 +104,7 @@ mutual
       let at_u : numbers_of (with_regions t o rs) ≡ behind_regions (past_op c h) rs = numbers-regions rs t o ∙ ap (λ c. behind_regions c rs) at_t in
       add-ops (then_op g qs os) a (with_regions t o rs) b (behind_regions (past_op c h) rs) at_u m
 
+  -- the same of regions
   pub add-regions : (rs : Rs) (a : Adding) (s : Rows) (o : OpId) (c : Numbers) → numbers_of s ≡ c
       → IsOneOf (parent_of a) (open_regions c rs)
       → act a (with_regions s o rs) ≡ with_regions s o (added_regions a c rs)
@@ -118,6 +123,7 @@ mutual
       let at_u : numbers_of (with_blocks t r bs) ≡ behind_blocks (past_region c) bs = numbers-blocks bs t r ∙ ap (λ c. behind_blocks c bs) at_t in
       add-regions (region ds rs) a (with_blocks t r bs) o (behind_blocks (past_region c) bs) at_u m
 
+  -- the same of blocks
   pub add-blocks : (bs : Bs) (a : Adding) (s : Rows) (r : RegionId) (c : Numbers) → numbers_of s ≡ c
       → IsOneOf (parent_of a) (open_blocks c bs)
       → act a (with_blocks s r bs) ≡ with_blocks s r (added_blocks a c bs)

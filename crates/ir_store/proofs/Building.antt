@@ -83,6 +83,7 @@ joined-op m mid end b first more here made is =
     ∙ same-added m (to_block b first) (to_block b more) (to_block b (joined_ops first more)) here (parent-open m (to_block b first) here) here
     (twice-ops first more (rows_of m) b)
 
+-- regions that are added one after the other are added at once
 pub joined-region : (m mid end : Module) (o : OpId) (first more : Rs) → IsOpen m (in_op o)
     → mid ≡ added m (to_op o first) → end ≡ added mid (to_op o more) → end ≡ added m (to_op o (joined_regions first more))
 joined-region m mid end o first more here made is =
@@ -90,6 +91,7 @@ joined-region m mid end o first more here made is =
     ∙ same-added m (to_op o first) (to_op o more) (to_op o (joined_regions first more)) here (parent-open m (to_op o first) here) here
     (twice-regions first more (rows_of m) o)
 
+-- blocks that are added one after the other are added at once
 pub joined-block : (m mid end : Module) (r : RegionId) (first more : Bs) → IsOpen m (in_region r)
     → mid ≡ added m (to_region r first) → end ≡ added mid (to_region r more) → end ≡ added m (to_region r (joined_blocks first more))
 joined-block m mid end r first more here made is =
@@ -102,9 +104,11 @@ pub nothing-op : (m : Module) (b : Option BlockId) → IsOpen m (in_block b)
     → added m (to_block b no_ops) ≡ m
 nothing-op m b here = rows-same _ _ (sym (rows-added m (to_block b no_ops) here))
 
+-- to add no region changes nothing
 pub nothing-region : (m : Module) (o : OpId) → IsOpen m (in_op o) → added m (to_op o no_regions) ≡ m
 nothing-region m o here = rows-same _ _ (sym (rows-added m (to_op o no_regions) here))
 
+-- to add no block changes nothing
 pub nothing-block : (m : Module) (r : RegionId) → IsOpen m (in_region r)
     → added m (to_region r no_blocks) ≡ m
 nothing-block m r here = rows-same _ _ (sym (rows-added m (to_region r no_blocks) here))

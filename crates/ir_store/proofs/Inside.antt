@@ -30,10 +30,12 @@ get-back : {X : Type 0} (xs ys : List X) (i : ℕ) (x : X) → slice_get ys i �
 get-back [] ys i x e = let same : 0 + i ≡ i = omega arith in rw same e
 get-back (y ∷ xs) ys i x e = let same : length (y ∷ xs) + i ≡ suc (length xs + i) = omega arith in rw same (get-back xs ys i x e)
 
+-- the first part of a list that stands somewhere stands there
 pub stands-left : {X : Type 0} (all : List X) (k : ℕ) (xs ys : List X) → StandsAt all k (xs ++ ys)
     → StandsAt all k xs
 stands-left all k xs ys s = λ i x e. s i x (get-front xs ys i x e)
 
+-- the second part stands behind it
 pub stands-right : {X : Type 0} (all : List X) (k n : ℕ) (xs ys : List X) → k + length xs ≡ n
     → StandsAt all k (xs ++ ys) → StandsAt all n ys
 stands-right all k n xs ys is s = λ i x e.
@@ -41,10 +43,12 @@ stands-right all k n xs ys is s = λ i x e.
     let found : slice_get all (k + (length xs + i)) ≡ Some x = s (length xs + i) x (get-back xs ys i x e) in
     rw (← same) found
 
+-- the first item stands at the place
 pub stands-first : {X : Type 0} (all : List X) (k : ℕ) (x : X) (xs : List X)
     → StandsAt all k (x ∷ xs) → slice_get all k ≡ Some x
 stands-first all k x xs s = let same : k + 0 ≡ k = omega arith in rw same at (s 0 x refl)
 
+-- a list stands in itself from 0 on
 pub stands-all : {X : Type 0} (all : List X) → StandsAt all 0 all
 stands-all all = λ i x e. let same : 0 + i ≡ i = omega arith in rw same e
 
@@ -100,10 +104,12 @@ module _ {N V : Type 0} where
       (ts : List V) → Counts (past_block c args) d ps ts → Counts c d (a_block x ∷ ps) (args ++ ts)
   counts-block c d x args ps ts k = record { ops = k.ops; regions = k.regions; blocks = omega arith; values = omega (arith, length-append args ts) }
 
+  -- the types that operations define
   abbrev pub types_ops : Ops N V → List V
   types_ops os = types_in os
 
   mutual
+    -- the numbers behind operations count what is in them
     pub counts-ops : (os : Ops N V) (c : Numbers)
         → Counts c (behind c os) (parts c os) (types_in os)
     counts-ops no_ops c = record { ops = omega arith; regions = omega arith; blocks = omega arith; values = omega arith }
@@ -114,6 +120,7 @@ module _ {N V : Type 0} where
         let assoc = append_assoc h.results (types_in_regions rs) (types_in os) in
         rw assoc (counts-op c (behind f os) _ h _ _ rest)
 
+    -- the same of regions
     pub counts-regions : (rs : Regions N V) (c : Numbers)
         → Counts c (behind_regions c rs) (parts_of_regions c rs) (types_in_regions rs)
     counts-regions no_regions c = record { ops = omega arith; regions = omega arith; blocks = omega arith; values = omega arith }
@@ -123,6 +130,7 @@ module _ {N V : Type 0} where
         counts-region c (behind_regions f rs) _ _ _
         (counts-join d f (behind_regions f rs) (parts_of_blocks d bs) (parts_of_regions f rs) (types_in_blocks bs) (types_in_regions rs) (counts-blocks bs d) (counts-regions rs f))
 
+    -- the same of blocks
     pub counts-blocks : (bs : Blocks N V) (c : Numbers)
         → Counts c (behind_blocks c bs) (parts_of_blocks c bs) (types_in_blocks bs)
     counts-blocks no_blocks c = record { ops = omega arith; regions = omega arith; blocks = omega arith; values = omega arith }
@@ -158,6 +166,7 @@ module _ {N V : Type 0} where
     pub inside : Inside m (past_op c h) (parts_of_regions (past_op c h) rs) (types_in_regions rs)
     pub rest : Inside m (behind_regions (past_op c h) rs) (parts (behind_regions (past_op c h) rs) os) (types_in os)
 
+  -- the first operation stands in the module, and what is in it, and those behind it
   pub inside-op : (m : Ops N V) (c : Numbers) (h : OpHead N V) (rs : Regions N V) (os : Ops N V)
       → Inside m c (parts c (then_op h rs os)) (types_in (then_op h rs os)) → OpInside m c h rs os
   inside-op m c h rs os x =
@@ -178,11 +187,13 @@ module _ {N V : Type 0} where
         rest = inside-right m d f _ _ _ _ (counts-regions rs d) tail;
       }
 
+  -- what is in the first region, and in those behind it
   pub record RegionInside (m : Ops N V) (c : Numbers) (bs : Blocks N V) (rs : Regions N V) : Type 0 where
     pub here : region_at m (region_id c.regions) ≡ Some (record { at = c; blocks = bs })
     pub inside : Inside m (past_region c) (parts_of_blocks (past_region c) bs) (types_in_blocks bs)
     pub rest : Inside m (behind_blocks (past_region c) bs) (parts_of_regions (behind_blocks (past_region c) bs) rs) (types_in_regions rs)
 
+  -- the first region stands in the module, and what is in it, and those behind it
   pub inside-region : (m : Ops N V) (c : Numbers) (bs : Blocks N V) (rs : Regions N V)
       → Inside m c (parts_of_regions c (region bs rs)) (types_in_regions (region bs rs))
       → RegionInside m c bs rs
@@ -201,12 +212,14 @@ module _ {N V : Type 0} where
         rest = inside-right m d f _ _ _ _ (counts-blocks bs d) tail;
       }
 
+  -- what is in the first block, and in those behind it
   pub record BlockInside (m : Ops N V) (c : Numbers) (args : List V) (os : Ops N V) (bs : Blocks N V) : Type 0 where
     pub here : block_at m (block_id c.blocks) ≡ Some (record { at = c; args = args; ops = os })
     pub types : HaveTypes m c.values args
     pub inside : Inside m (past_block c args) (parts (past_block c args) os) (types_in os)
     pub rest : Inside m (behind (past_block c args) os) (parts_of_blocks (behind (past_block c args) os) bs) (types_in_blocks bs)
 
+  -- the first block stands in the module, and what is in it, and those behind it
   pub inside-block : (m : Ops N V) (c : Numbers) (args : List V) (os : Ops N V) (bs : Blocks N V)
       → Inside m c (parts_of_blocks c (block args os bs)) (types_in_blocks (block args os bs))
       → BlockInside m c args os bs
@@ -228,6 +241,7 @@ module _ {N V : Type 0} where
         rest = inside-right m d f _ _ _ _ (counts-ops os d) tail;
       }
 
+  -- a module stands in itself
   pub inside-all : (m : Ops N V) → Inside m first_numbers (parts first_numbers m) (types_in m)
   inside-all m = record { ops = stands-all _; regions = stands-all _; blocks = stands-all _; types = stands-all _ }
 
@@ -245,6 +259,7 @@ module _ {N V : Type 0} where
       (block_at m (block_id x.at.blocks) ≡ Some x) × HaveTypes m x.at.values x.args
       × Inside m (past_block x.at x.args) (parts (past_block x.at x.args) x.ops) (types_in x.ops)
 
+  -- each part is placed
   abbrev pub ArePlaced : Ops N V → List (Part N V) → Type 0
   ArePlaced m [] = Unit {0}
   ArePlaced m (p ∷ ps) = IsPlaced m p × ArePlaced m ps
@@ -255,6 +270,7 @@ module _ {N V : Type 0} where
   placed-join m (p ∷ ps) qs x y = (x.0, placed-join m ps qs x.1 y)
 
   mutual
+    -- the parts of operations that stand in a module are placed
     pub placed-ops : (os : Ops N V) (m : Ops N V) (c : Numbers)
         → Inside m c (parts c os) (types_in os) → ArePlaced m (parts c os)
     placed-ops no_ops m c x = tt
@@ -262,6 +278,7 @@ module _ {N V : Type 0} where
         let o = inside-op m c h rs os x in
         ((o.here, o.results, o.inside), placed-join m _ _ (placed-regions rs m (past_op c h) o.inside) (placed-ops os m (behind_regions (past_op c h) rs) o.rest))
 
+    -- the same of regions
     pub placed-regions : (rs : Regions N V) (m : Ops N V) (c : Numbers)
         → Inside m c (parts_of_regions c rs) (types_in_regions rs)
         → ArePlaced m (parts_of_regions c rs)
@@ -270,6 +287,7 @@ module _ {N V : Type 0} where
         let o = inside-region m c bs rs x in
         ((o.here, o.inside), placed-join m _ _ (placed-blocks bs m (past_region c) o.inside) (placed-regions rs m (behind_blocks (past_region c) bs) o.rest))
 
+    -- the same of blocks
     pub placed-blocks : (bs : Blocks N V) (m : Ops N V) (c : Numbers)
         → Inside m c (parts_of_blocks c bs) (types_in_blocks bs)
         → ArePlaced m (parts_of_blocks c bs)
@@ -302,14 +320,17 @@ module _ {N V : Type 0} where
   placed-block-at m (an_op y ∷ ps) i x g e = placed-block-at m ps i x g.1 e
   placed-block-at m (a_region y ∷ ps) i x g e = placed-block-at m ps i x g.1 e
 
+  -- an operation that an id names is placed
   pub op-placed : (m : Ops N V) (id : OpId) (x : OpSite N V) → op_at m id ≡ Some x
       → IsPlaced m (an_op x)
   op-placed m id x e = placed-op-at m _ id.0 x (placed-ops m m first_numbers (inside-all m)) e
 
+  -- a region that an id names is placed
   pub region-placed : (m : Ops N V) (id : RegionId) (x : RegionSite N V) → region_at m id ≡ Some x
       → IsPlaced m (a_region x)
   region-placed m id x e = placed-region-at m _ id.0 x (placed-ops m m first_numbers (inside-all m)) e
 
+  -- a block that an id names is placed
   pub block-placed : (m : Ops N V) (id : BlockId) (x : BlockSite N V) → block_at m id ≡ Some x
       → IsPlaced m (a_block x)
   block-placed m id x e = placed-block-at m _ id.0 x (placed-ops m m first_numbers (inside-all m)) e

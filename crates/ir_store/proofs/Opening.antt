@@ -19,14 +19,17 @@ opened (to_block b more) k = open_ops k more
 opened (to_op o more) k = open_regions k more
 opened (to_region r more) k = open_blocks k more
 
+-- there is an operation
 abbrev pub HasOp : {N V : Type 0} → Ops N V → Type 0
 HasOp no_ops = ⊥
 HasOp (then_op h rs os) = Unit {0}
 
+-- there is a region
 abbrev pub HasRegion : {N V : Type 0} → Regions N V → Type 0
 HasRegion no_regions = ⊥
 HasRegion (region bs rs) = Unit {0}
 
+-- there is a block
 abbrev pub HasBlock : {N V : Type 0} → Blocks N V → Type 0
 HasBlock no_blocks = ⊥
 HasBlock (block args os bs) = Unit {0}
@@ -52,6 +55,7 @@ IsBelow d (in_block (Some b)) = b.0 < d.blocks
 IsBelow d (in_op o) = o.0 < d.ops
 IsBelow d (in_region r) = r.0 < d.regions
 
+-- the first has no more operations, regions and blocks than the second
 pub record NoMore (c d : Numbers) : Type 0 where
   pub ops : c.ops ≤ d.ops
   pub regions : c.regions ≤ d.regions
@@ -111,6 +115,7 @@ module _ {N V : Type 0} where
   still-block a args os no_blocks c = tt
   still-block a args os (block more ps bs) c = tt
 
+  -- behind more operations only what is open in these is open
   pub joined-open : (os more : Ops N V) (c : Numbers) → HasOp more
       → open_ops c (joined_ops os more) ≡ open_ops (behind c os) more
   joined-open no_ops more c has = refl
@@ -201,6 +206,7 @@ module _ {N V : Type 0} where
   ]
 
   mutual
+    -- what is open among operations after an addition
     pub grow-open_ops : (os : Ops N V) (a : Addition N V) (c : Numbers)
         → IsOneOf (parent_of a) (open_ops c os)
         → Grows a (behind c os) (open_ops c os) (open_ops c (added_ops a c os))
@@ -211,6 +217,7 @@ module _ {N V : Type 0} where
         let d = behind_regions (past_op c h) rs in
         rw (past-op h rs (added_ops a d (then_op g qs os)) c (still-op a g qs os d)) (grow-open_ops (then_op g qs os) a d m)
 
+    -- the same of regions
     pub grow-open_regions : (rs : Regions N V) (a : Addition N V) (c : Numbers)
         → IsOneOf (parent_of a) (open_regions c rs)
         → Grows a (behind_regions c rs) (open_regions c rs) (open_regions c (added_regions a c rs))
@@ -221,6 +228,7 @@ module _ {N V : Type 0} where
         let d = behind_blocks (past_region c) bs in
         rw (past-region bs (added_regions a d (region ds rs)) c (still-region a ds rs d)) (grow-open_regions (region ds rs) a d m)
 
+    -- the same of blocks
     pub grow-open_blocks : (bs : Blocks N V) (a : Addition N V) (c : Numbers)
         → IsOneOf (parent_of a) (open_blocks c bs)
         → Grows a (behind_blocks c bs) (open_blocks c bs) (open_blocks c (added_blocks a c bs))
@@ -264,10 +272,12 @@ module _ {N V : Type 0} where
   pub opens-parent : (m n : Ops N V) (p q : Parent) → Opens m n p q → IsOpen n p
   opens-parent m n p q o = record { among = subst (IsOneOf p) (sym o.is) (one-of-middle p o.round (q ∷ [])) }
 
+  -- what was put in is open
   pub opens-child : (m n : Ops N V) (p q : Parent) → Opens m n p q → IsOpen n q
   opens-child m n p q o = record { among = subst (IsOneOf q) (sym o.is) (one-of-next p q o.round []) }
 
   mutual
+    -- numbers grow along operations
     pub later-ops : (os : Ops N V) (c : Numbers) → NoMore c (behind c os)
     later-ops no_ops c = record { ops = omega arith; regions = omega arith; blocks = omega arith }
     later-ops (then_op h rs os) c =
@@ -275,6 +285,7 @@ module _ {N V : Type 0} where
         let y = later-ops os (behind_regions (past_op c h) rs) in
         record { ops = omega arith; regions = omega arith; blocks = omega arith }
 
+    -- numbers grow along regions
     pub later-regions : (rs : Regions N V) (c : Numbers) → NoMore c (behind_regions c rs)
     later-regions no_regions c = record { ops = omega arith; regions = omega arith; blocks = omega arith }
     later-regions (region bs rs) c =
@@ -282,6 +293,7 @@ module _ {N V : Type 0} where
         let y = later-regions rs (behind_blocks (past_region c) bs) in
         record { ops = omega arith; regions = omega arith; blocks = omega arith }
 
+    -- numbers grow along blocks
     pub later-blocks : (bs : Blocks N V) (c : Numbers) → NoMore c (behind_blocks c bs)
     later-blocks no_blocks c = record { ops = omega arith; regions = omega arith; blocks = omega arith }
     later-blocks (block args os bs) c =
@@ -290,6 +302,7 @@ module _ {N V : Type 0} where
         record { ops = omega arith; regions = omega arith; blocks = omega arith }
 
   mutual
+    -- what is open among operations has a number below those behind them
     pub below-ops : (os : Ops N V) (c : Numbers) (p : Parent) → IsOneOf p (open_ops c os)
         → IsBelow (behind c os) p
     below-ops no_ops c p m = absurd m
@@ -298,6 +311,7 @@ module _ {N V : Type 0} where
     below-ops (then_op h rs no_ops) c p (inr i) = below-regions rs (past_op c h) p i
     below-ops (then_op h rs (then_op g qs os)) c p m = below-ops (then_op g qs os) (behind_regions (past_op c h) rs) p m
 
+    -- the same of regions
     pub below-regions : (rs : Regions N V) (c : Numbers) (p : Parent) → IsOneOf p (open_regions c rs)
         → IsBelow (behind_regions c rs) p
     below-regions no_regions c p m = absurd m
@@ -306,6 +320,7 @@ module _ {N V : Type 0} where
     below-regions (region bs no_regions) c p (inr i) = below-blocks bs (past_region c) p i
     below-regions (region bs (region ds rs)) c p m = below-regions (region ds rs) (behind_blocks (past_region c) bs) p m
 
+    -- the same of blocks
     pub below-blocks : (bs : Blocks N V) (c : Numbers) (p : Parent) → IsOneOf p (open_blocks c bs)
         → IsBelow (behind_blocks c bs) p
     below-blocks no_blocks c p m = absurd m
@@ -318,5 +333,6 @@ module _ {N V : Type 0} where
   below-all m p (inl e) = subst (IsBelow (behind first_numbers m)) (sym e) tt
   below-all m p (inr i) = below-ops m first_numbers p i
 
+  -- what is open has a number below the module's count
   pub open-below : (m : Ops N V) (p : Parent) → IsOpen m p → IsBelow (behind first_numbers m) p
   open-below m p o = below-all m p o.among

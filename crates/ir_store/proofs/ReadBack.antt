@@ -29,6 +29,7 @@ use Rattle.ir_store.proofs.Inside.{stands-piece}
 -- ---- ids
 
 mutual
+  -- the ids of operations that stand in a module name them
   pub are-ops : (os : Module) (m : Module) (c : Numbers) → Inside m c (parts c os) (types_in os)
       → AreOps m c (op_ids c os) os
   are-ops no_ops m c x = tt
@@ -36,6 +37,7 @@ mutual
       let o = inside-op m c h rs os x in
       (refl, o.here, are-ops os m (behind_regions (past_op c h) rs) o.rest)
 
+  -- the same of regions
   pub are-regions : (rs : Rs) (m : Module) (c : Numbers)
       → Inside m c (parts_of_regions c rs) (types_in_regions rs)
       → AreRegions m c (region_ids c rs) rs
@@ -44,6 +46,7 @@ mutual
       let o = inside-region m c bs rs x in
       (refl, o.here, are-regions rs m (behind_blocks (past_region c) bs) o.rest)
 
+  -- the same of blocks
   pub are-blocks : (bs : Bs) (m : Module) (c : Numbers)
       → Inside m c (parts_of_blocks c bs) (types_in_blocks bs) → AreBlocks m c (block_ids c bs) bs
   are-blocks no_blocks m c x = tt
@@ -53,36 +56,43 @@ mutual
 
 -- ---- what stands at a place of the rows
 
+-- the row of an operation that an id names
 pub op-row : (m : Module) (id : OpId) (x : OpSite OpName ValueId) → op_at m id ≡ Some x
     → slice_get (rows_of m).ops id.0 ≡ Some (op_node x)
 op-row m id x e = slice_get-map op_node (ops_in m) id.0 ∙ ap (option_map op_node) e
 
+-- the row of a region that an id names
 pub region-row : (m : Module) (id : RegionId) (x : RegionSite OpName ValueId)
     → region_at m id ≡ Some x → slice_get (rows_of m).regions id.0 ≡ Some (region_node x)
 region-row m id x e = slice_get-map region_node (regions_in m) id.0 ∙ ap (option_map region_node) e
 
+-- the row of a block that an id names
 pub block-row : (m : Module) (id : BlockId) (x : BlockSite OpName ValueId) → block_at m id ≡ Some x
     → slice_get (rows_of m).blocks id.0 ≡ Some (block_node x)
 block-row m id x e = slice_get-map block_node (blocks_in m) id.0 ∙ ap (option_map block_node) e
 
 -- ---- reading back
 
+-- the first id of a list is read as the operation of its row
 pub op-now : (s : Rows) (steps : ℕ) (id : OpId) (ids : List OpId) (n : OpNode)
     → slice_get s.ops id.0 ≡ Some n
     → read_ops s (suc steps) (id ∷ ids) ≡ then_op n.head (read_regions s steps n.regions) (read_ops s steps ids)
 op-now s steps id ids n e = rw (e, read_ops)
 
+-- the same of regions
 pub region-now : (s : Rows) (steps : ℕ) (id : RegionId) (ids : List RegionId) (n : RegionRow)
     → slice_get s.regions id.0 ≡ Some n
     → read_regions s (suc steps) (id ∷ ids) ≡ region (read_blocks s steps n.blocks) (read_regions s steps ids)
 region-now s steps id ids n e = rw (e, read_regions)
 
+-- the same of blocks
 pub block-now : (s : Rows) (steps : ℕ) (id : BlockId) (ids : List BlockId) (n : BlockEntry)
     → slice_get s.blocks id.0 ≡ Some n
     → read_blocks s (suc steps) (id ∷ ids) ≡ block (take n.count (drop n.first s.types)) (read_ops s steps n.ops) (read_blocks s steps ids)
 block-now s steps id ids n e = rw (e, read_blocks)
 
 mutual
+  -- operations are read back from the tables of the module in which they stand
   pub back-ops : (steps : ℕ) (os m : Module) (c : Numbers) → Inside m c (parts c os) (types_in os)
       → length (parts c os) ≤ steps → read_ops (rows_of m) steps (op_ids c os) ≡ os
   back-ops zero no_ops m c x within = refl
@@ -98,6 +108,7 @@ mutual
       op-now (rows_of m) steps (op_id c.ops) (op_ids f os) _ (op-row m (op_id c.ops) _ o.here)
       ∙ ap (λ rs. then_op h rs (read_ops (rows_of m) steps (op_ids f os))) inside ∙ ap (then_op h rs) rest
 
+  -- the same of regions
   pub back-regions : (steps : ℕ) (rs : Rs) (m : Module) (c : Numbers)
       → Inside m c (parts_of_regions c rs) (types_in_regions rs)
       → length (parts_of_regions c rs) ≤ steps
@@ -115,6 +126,7 @@ mutual
       region-now (rows_of m) steps (region_id c.regions) (region_ids f rs) _ (region-row m (region_id c.regions) _ o.here)
       ∙ ap (λ bs. region bs (read_regions (rows_of m) steps (region_ids f rs))) inside ∙ ap (region bs) rest
 
+  -- the same of blocks
   pub back-blocks : (steps : ℕ) (bs : Bs) (m : Module) (c : Numbers)
       → Inside m c (parts_of_blocks c bs) (types_in_blocks bs)
       → length (parts_of_blocks c bs) ≤ steps

@@ -24,9 +24,11 @@ use Rattle.ir_store.specs.Rows.{rows_of, changed, top_with, blocks_with, with_op
 use Rattle.ir_store.specs.Rows.{with_block}
 use Rattle.ir_store.proofs.Changed.{length-changed}
 
+-- regions of a store
 abbrev pub Rs : Type 0
 Rs = Regions OpName ValueId
 
+-- blocks of a store
 abbrev pub Bs : Type 0
 Bs = Blocks OpName ValueId
 
@@ -37,11 +39,13 @@ abbrev mutual
   with_ops s b (then_op h rs os) =
       with_ops (with_regions (with_op s b h) (op_id (length s.ops)) rs) b os
 
+  -- the tables with these regions last in an operation
   pub with_regions : Rows → OpId → Rs → Rows
   with_regions s o no_regions = s
   with_regions s o (region bs rs) =
       with_regions (with_blocks (with_region s o) (region_id (length s.regions)) bs) o rs
 
+  -- the tables with these blocks last in a region
   pub with_blocks : Rows → RegionId → Bs → Rows
   with_blocks s r no_blocks = s
   with_blocks s r (block args os bs) =
@@ -60,6 +64,7 @@ same-numbers : (a b c d a' b' c' d' : ℕ) → a ≡ a' → b ≡ b' → c ≡ c
     → Path Numbers (record { ops = a; regions = b; blocks = c; values = d }) (record { ops = a'; regions = b'; blocks = c'; values = d' })
 same-numbers a b c d a' b' c' d' p q r s = cc
 
+-- the numbers behind one more operation
 pub numbers-op : (s : Rows) (b : Option BlockId) (h : StoredHead)
     → numbers_of (with_op s b h) ≡ past_op (numbers_of s) h
 numbers-op s None h =
@@ -68,11 +73,13 @@ numbers-op s (Some b) h =
     same-numbers _ _ _ _ _ _ _ _ (omega (arith, length-append s.ops)) refl
     (length-changed {A = BlockEntry} _ s.blocks b.0) (length-append s.types h.results)
 
+-- the numbers behind one more region
 pub numbers-region : (s : Rows) (o : OpId)
     → numbers_of (with_region s o) ≡ past_region (numbers_of s)
 numbers-region s o =
     same-numbers _ _ _ _ _ _ _ _ (length-changed {A = OpNode} _ s.ops o.0) (omega (arith, length-append s.regions)) refl refl
 
+-- the numbers behind one more block
 pub numbers-block : (s : Rows) (r : RegionId) (args : List ValueId)
     → numbers_of (with_block s r args) ≡ past_block (numbers_of s) args
 numbers-block s r args =
@@ -80,6 +87,7 @@ numbers-block s r args =
     (omega (arith, length-append s.blocks)) (length-append s.types args)
 
 mutual
+  -- the numbers behind more operations
   pub numbers-ops : (os : Module) (s : Rows) (b : Option BlockId)
       → numbers_of (with_ops s b os) ≡ behind (numbers_of s) os
   numbers-ops no_ops s b = refl
@@ -89,6 +97,7 @@ mutual
       numbers-ops os (with_regions t o rs) b
       ∙ ap (λ c. behind c os) (numbers-regions rs t o ∙ ap (λ c. behind_regions c rs) (numbers-op s b h))
 
+  -- the numbers behind more regions
   pub numbers-regions : (rs : Rs) (s : Rows) (o : OpId)
       → numbers_of (with_regions s o rs) ≡ behind_regions (numbers_of s) rs
   numbers-regions no_regions s o = refl
@@ -98,6 +107,7 @@ mutual
       numbers-regions rs (with_blocks t r bs) o
       ∙ ap (λ c. behind_regions c rs) (numbers-blocks bs t r ∙ ap (λ c. behind_blocks c bs) (numbers-region s o))
 
+  -- the numbers behind more blocks
   pub numbers-blocks : (bs : Bs) (s : Rows) (r : RegionId)
       → numbers_of (with_blocks s r bs) ≡ behind_blocks (numbers_of s) bs
   numbers-blocks no_blocks s r = refl
@@ -113,11 +123,13 @@ pub twice-ops : (os more : Module) (s : Rows) (b : Option BlockId)
 twice-ops no_ops more s b = refl
 twice-ops (then_op h rs os) more s b = twice-ops os more (with_regions (with_op s b h) (op_id (length s.ops)) rs) b
 
+-- regions in two steps
 pub twice-regions : (rs more : Rs) (s : Rows) (o : OpId)
     → with_regions (with_regions s o rs) o more ≡ with_regions s o (joined_regions rs more)
 twice-regions no_regions more s o = refl
 twice-regions (region bs rs) more s o = twice-regions rs more (with_blocks (with_region s o) (region_id (length s.regions)) bs) o
 
+-- blocks in two steps
 pub twice-blocks : (bs more : Bs) (s : Rows) (r : RegionId)
     → with_blocks (with_blocks s r bs) r more ≡ with_blocks s r (joined_blocks bs more)
 twice-blocks no_blocks more s r = refl
@@ -125,6 +137,7 @@ twice-blocks (block args os bs) more s r = twice-blocks bs more (with_ops (with_
 
 -- ---- the rows of a tree
 
+-- the operations among joined parts
 pub op-sites-append : {N V : Type 0} (ps qs : List (Part N V))
     → op_sites (ps ++ qs) ≡ op_sites ps ++ op_sites qs
 op-sites-append [] qs = refl
@@ -132,6 +145,7 @@ op-sites-append (an_op x ∷ ps) qs = ap (λ l. x ∷ l) (op-sites-append ps qs)
 op-sites-append (a_region x ∷ ps) qs = op-sites-append ps qs
 op-sites-append (a_block x ∷ ps) qs = op-sites-append ps qs
 
+-- the regions among joined parts
 pub region-sites-append : {N V : Type 0} (ps qs : List (Part N V))
     → region_sites (ps ++ qs) ≡ region_sites ps ++ region_sites qs
 region-sites-append [] qs = refl
@@ -139,6 +153,7 @@ region-sites-append (an_op x ∷ ps) qs = region-sites-append ps qs
 region-sites-append (a_region x ∷ ps) qs = ap (λ l. x ∷ l) (region-sites-append ps qs)
 region-sites-append (a_block x ∷ ps) qs = region-sites-append ps qs
 
+-- the blocks among joined parts
 pub block-sites-append : {N V : Type 0} (ps qs : List (Part N V))
     → block_sites (ps ++ qs) ≡ block_sites ps ++ block_sites qs
 block-sites-append [] qs = refl
@@ -146,14 +161,17 @@ block-sites-append (an_op x ∷ ps) qs = block-sites-append ps qs
 block-sites-append (a_region x ∷ ps) qs = block-sites-append ps qs
 block-sites-append (a_block x ∷ ps) qs = ap (λ l. x ∷ l) (block-sites-append ps qs)
 
+-- the rows of the operations among joined parts
 pub op-nodes-append : (ps qs : List (Part OpName ValueId))
     → op_nodes (ps ++ qs) ≡ op_nodes ps ++ op_nodes qs
 op-nodes-append ps qs = ap (map op_node) (op-sites-append ps qs) ∙ map-append op_node (op_sites ps) (op_sites qs)
 
+-- the rows of the regions among joined parts
 pub region-nodes-append : (ps qs : List (Part OpName ValueId))
     → region_nodes (ps ++ qs) ≡ region_nodes ps ++ region_nodes qs
 region-nodes-append ps qs = ap (map region_node) (region-sites-append ps qs) ∙ map-append region_node (region_sites ps) (region_sites qs)
 
+-- the rows of the blocks among joined parts
 pub block-nodes-append : (ps qs : List (Part OpName ValueId))
     → block_nodes (ps ++ qs) ≡ block_nodes ps ++ block_nodes qs
 block-nodes-append ps qs = ap (map block_node) (block-sites-append ps qs) ∙ map-append block_node (block_sites ps) (block_sites qs)
@@ -193,6 +211,7 @@ grown_ops s b c os = record {
   types = s.types ++ types_in os;
 }
 
+-- the same after regions
 abbrev pub grown_regions : Rows → OpId → Numbers → Rs → Rows
 grown_regions s o c rs = record {
   top = s.top;
@@ -202,6 +221,7 @@ grown_regions s o c rs = record {
   types = s.types ++ types_in_regions rs;
 }
 
+-- the same after blocks
 abbrev pub grown_blocks : Rows → RegionId → Numbers → Bs → Rows
 grown_blocks s r c bs = record {
   top = s.top;
@@ -255,6 +275,7 @@ there-later s None f more h = tt
 there-later s (Some b) f more h = omega arith
 
 mutual
+  -- operations that are put in one by one make these tables
   pub grow-ops : (os : Module) (s : Rows) (b : Option BlockId) (c : Numbers) → numbers_of s ≡ c
       → IsThere s b → with_ops s b os ≡ grown_ops s b c os
   grow-ops no_ops s b c e h =
@@ -290,6 +311,7 @@ mutual
       (rw (join_blocks, ← place, blocks-more s b h (o ∷ []) (op_ids f os) (block_nodes (parts_of_regions d rs))) (simp append_assoc))
       (simp append_assoc)
 
+  -- the same of regions
   pub grow-regions : (rs : Rs) (s : Rows) (o : OpId) (c : Numbers) → numbers_of s ≡ c
       → o.0 < length s.ops → with_regions s o rs ≡ grown_regions s o c rs
   grow-regions no_regions s o c e h =
@@ -329,6 +351,7 @@ mutual
       (rw join_blocks (simp append_assoc))
       (simp append_assoc)
 
+  -- the same of blocks
   pub grow-blocks : (bs : Bs) (s : Rows) (r : RegionId) (c : Numbers) → numbers_of s ≡ c
       → r.0 < length s.regions → with_blocks s r bs ≡ grown_blocks s r c bs
   grow-blocks no_blocks s r c e h =

@@ -32,18 +32,22 @@ get-some (x ∷ xs) zero h = (x, refl)
 get-some (x ∷ xs) (suc i) h = get-some xs i (omega arith)
 
 module _ {N V : Type 0} where
+  -- a number below the count names an operation
   pub an-op : (m : Ops N V) (i : ℕ) → i < length (ops_in m)
       → (x : OpSite N V) × (op_at m (op_id i) ≡ Some x)
   an-op m i h = get-some (ops_in m) i h
 
+  -- the id of an operation is below the count
   pub op-within : (m : Ops N V) (id : OpId) (x : OpSite N V) → op_at m id ≡ Some x
       → id.0 < length (ops_in m)
   op-within m id x e = slice_get_within (ops_in m) id.0 x e
 
+  -- the id of a region is below the count
   pub region-within : (m : Ops N V) (id : RegionId) (x : RegionSite N V) → region_at m id ≡ Some x
       → id.0 < length (regions_in m)
   region-within m id x e = slice_get_within (regions_in m) id.0 x e
 
+  -- the id of a block is below the count
   pub block-within : (m : Ops N V) (id : BlockId) (x : BlockSite N V) → block_at m id ≡ Some x
       → id.0 < length (blocks_in m)
   block-within m id x e = slice_get_within (blocks_in m) id.0 x e
@@ -58,15 +62,18 @@ module _ {N V : Type 0} where
     pub here : op_at m id ≡ Some (record { at = c; head = head; regions = regions })
     pub more : AreOps m (behind_regions (past_op c head) regions) ids rest
 
+  -- the first id of a list names the first operation
   pub ops-first : (m : Ops N V) (c : Numbers) (id : OpId) (ids : List OpId) (os : Ops N V)
       → AreOps m c (id ∷ ids) os → FirstOp m c id ids os
   ops-first m c id ids no_ops x = absurd x
   ops-first m c id ids (then_op h rs os) x = record { head = h; regions = rs; rest = os; is = refl; id_is = x.0; here = x.1; more = x.2 }
 
+  -- where no id is left, no operation is
   pub ops-end : (m : Ops N V) (c : Numbers) (os : Ops N V) → AreOps m c [] os → os ≡ no_ops
   ops-end m c no_ops x = refl
   ops-end m c (then_op h rs os) x = absurd x
 
+  -- the first region of a list, and those behind it
   pub record FirstRegion (m : Ops N V) (c : Numbers) (id : RegionId) (ids : List RegionId) (rs : Regions N V) : Type 0 where
     pub blocks : Blocks N V
     pub rest : Regions N V
@@ -75,16 +82,19 @@ module _ {N V : Type 0} where
     pub here : region_at m id ≡ Some (record { at = c; blocks = blocks })
     pub more : AreRegions m (behind_blocks (past_region c) blocks) ids rest
 
+  -- the first id of a list names the first region
   pub regions-first : (m : Ops N V) (c : Numbers) (id : RegionId) (ids : List RegionId)
       (rs : Regions N V) → AreRegions m c (id ∷ ids) rs → FirstRegion m c id ids rs
   regions-first m c id ids no_regions x = absurd x
   regions-first m c id ids (region bs rs) x = record { blocks = bs; rest = rs; is = refl; id_is = x.0; here = x.1; more = x.2 }
 
+  -- where no id is left, no region is
   pub regions-end : (m : Ops N V) (c : Numbers) (rs : Regions N V) → AreRegions m c [] rs
       → rs ≡ no_regions
   regions-end m c no_regions x = refl
   regions-end m c (region bs rs) x = absurd x
 
+  -- the first block of a list, and those behind it
   pub record FirstBlock (m : Ops N V) (c : Numbers) (id : BlockId) (ids : List BlockId) (bs : Blocks N V) : Type 0 where
     pub args : List V
     pub ops : Ops N V
@@ -94,11 +104,13 @@ module _ {N V : Type 0} where
     pub here : block_at m id ≡ Some (record { at = c; args = args; ops = ops })
     pub more : AreBlocks m (behind (past_block c args) ops) ids rest
 
+  -- the first id of a list names the first block
   pub blocks-first : (m : Ops N V) (c : Numbers) (id : BlockId) (ids : List BlockId)
       (bs : Blocks N V) → AreBlocks m c (id ∷ ids) bs → FirstBlock m c id ids bs
   blocks-first m c id ids no_blocks x = absurd x
   blocks-first m c id ids (block args os bs) x = record { args = args; ops = os; rest = bs; is = refl; id_is = x.0; here = x.1; more = x.2 }
 
+  -- where no id is left, no block is
   pub blocks-end : (m : Ops N V) (c : Numbers) (bs : Blocks N V) → AreBlocks m c [] bs
       → bs ≡ no_blocks
   blocks-end m c no_blocks x = refl
@@ -112,6 +124,7 @@ module _ {N V : Type 0} where
   regions-count m (id ∷ ids) no_regions c x = absurd x
   regions-count m (id ∷ ids) (region bs rs) c x = ap suc (regions-count m ids rs _ x.2)
 
+  -- as many ids as blocks
   pub blocks-count : (m : Ops N V) (ids : List BlockId) (bs : Blocks N V) (c : Numbers)
       → AreBlocks m c ids bs → length ids ≡ length (block_args bs)
   blocks-count m [] no_blocks c x = refl
@@ -128,42 +141,50 @@ module _ {N V : Type 0} where
     pub ops : Ops N V
     pub are : AreOps m at (drop i ids) ops
 
+  -- the id at a place names the first operation that is left
   pub ops-now : (m : Ops N V) (ids : List OpId) (i : ℕ) (d : OpId) → i < length ids
       → (l : OpsLeft m ids i) → FirstOp m l.at (get_or ids i d) (drop (i + 1) ids) l.ops
   ops-now m ids i d h l =
       let split : drop i ids ≡ get_or ids i d ∷ drop (i + 1) ids = rw add-one (drop-cons ids i d h) in
       ops-first m l.at _ _ l.ops (subst (λ ids. AreOps m l.at ids l.ops) split l.are)
 
+  -- those behind it are left then
   pub ops-next : (m : Ops N V) (ids : List OpId) (i : ℕ) (d : OpId) → i < length ids
       → OpsLeft m ids i → OpsLeft m ids (i + 1)
   ops-next m ids i d h l = let first = ops-now m ids i d h l in record { at = _; ops = first.rest; are = first.more }
 
+  -- what the ids of regions from i on name
   pub record RegionsLeft (m : Ops N V) (ids : List RegionId) (i : ℕ) : Type 0 where
     pub at : Numbers
     pub regions : Regions N V
     pub are : AreRegions m at (drop i ids) regions
 
+  -- the id at a place names the first region that is left
   pub regions-now : (m : Ops N V) (ids : List RegionId) (i : ℕ) (d : RegionId) → i < length ids
       → (l : RegionsLeft m ids i) → FirstRegion m l.at (get_or ids i d) (drop (i + 1) ids) l.regions
   regions-now m ids i d h l =
       let split : drop i ids ≡ get_or ids i d ∷ drop (i + 1) ids = rw add-one (drop-cons ids i d h) in
       regions-first m l.at _ _ l.regions (subst (λ ids. AreRegions m l.at ids l.regions) split l.are)
 
+  -- those behind it are left then
   pub regions-next : (m : Ops N V) (ids : List RegionId) (i : ℕ) (d : RegionId) → i < length ids
       → RegionsLeft m ids i → RegionsLeft m ids (i + 1)
   regions-next m ids i d h l = let first = regions-now m ids i d h l in record { at = _; regions = first.rest; are = first.more }
 
+  -- what the ids of blocks from i on name
   pub record BlocksLeft (m : Ops N V) (ids : List BlockId) (i : ℕ) : Type 0 where
     pub at : Numbers
     pub blocks : Blocks N V
     pub are : AreBlocks m at (drop i ids) blocks
 
+  -- the id at a place names the first block that is left
   pub blocks-now : (m : Ops N V) (ids : List BlockId) (i : ℕ) (d : BlockId) → i < length ids
       → (l : BlocksLeft m ids i) → FirstBlock m l.at (get_or ids i d) (drop (i + 1) ids) l.blocks
   blocks-now m ids i d h l =
       let split : drop i ids ≡ get_or ids i d ∷ drop (i + 1) ids = rw add-one (drop-cons ids i d h) in
       blocks-first m l.at _ _ l.blocks (subst (λ ids. AreBlocks m l.at ids l.blocks) split l.are)
 
+  -- those behind it are left then
   pub blocks-next : (m : Ops N V) (ids : List BlockId) (i : ℕ) (d : BlockId) → i < length ids
       → BlocksLeft m ids i → BlocksLeft m ids (i + 1)
   blocks-next m ids i d h l = let first = blocks-now m ids i d h l in record { at = _; blocks = first.rest; are = first.more }
@@ -172,6 +193,7 @@ module _ {N V : Type 0} where
 
 module _ {N V M W : Type 0} (f : N → M) (g : V → W) where
   mutual
+    -- the types of a module with other names and values are the other types
     pub types-mapped : (os : Ops N V) → types_in (mapped f g os) ≡ map g (types_in os)
     types-mapped no_ops = refl
     types-mapped (then_op h rs os) =
@@ -179,6 +201,7 @@ module _ {N V M W : Type 0} (f : N → M) (g : V → W) where
         let b = types-mapped os in
         rw (a, b, map-append, map-append)
 
+    -- the same of regions
     pub types-mapped_regions : (rs : Regions N V)
         → types_in_regions (mapped_regions f g rs) ≡ map g (types_in_regions rs)
     types-mapped_regions no_regions = refl
@@ -187,6 +210,7 @@ module _ {N V M W : Type 0} (f : N → M) (g : V → W) where
         let b = types-mapped_regions rs in
         rw (a, b, map-append)
 
+    -- the same of blocks
     pub types-mapped_blocks : (bs : Blocks N V)
         → types_in_blocks (mapped_blocks f g bs) ≡ map g (types_in_blocks bs)
     types-mapped_blocks no_blocks = refl
@@ -209,6 +233,7 @@ module _ {N V M W : Type 0} (f : N → M) (g : V → W) where
         behind-mapped os (behind_regions (past_op c (mapped_head f g h)) (mapped_regions f g rs))
         ∙ ap (λ d. behind d os) (behind-mapped_regions rs (past_op c (mapped_head f g h)) ∙ ap (λ d. behind_regions d rs) (past-op-mapped c h))
 
+    -- the same behind regions
     pub behind-mapped_regions : (rs : Regions N V) (c : Numbers)
         → behind_regions c (mapped_regions f g rs) ≡ behind_regions c rs
     behind-mapped_regions no_regions c = refl
@@ -216,6 +241,7 @@ module _ {N V M W : Type 0} (f : N → M) (g : V → W) where
         behind-mapped_regions rs (behind_blocks (past_region c) (mapped_blocks f g bs))
         ∙ ap (λ d. behind_regions d rs) (behind-mapped_blocks bs (past_region c))
 
+    -- the same behind blocks
     pub behind-mapped_blocks : (bs : Blocks N V) (c : Numbers)
         → behind_blocks c (mapped_blocks f g bs) ≡ behind_blocks c bs
     behind-mapped_blocks no_blocks c = refl
@@ -223,6 +249,7 @@ module _ {N V M W : Type 0} (f : N → M) (g : V → W) where
         behind-mapped_blocks bs (behind (past_block c (map g args)) (mapped f g os))
         ∙ ap (λ d. behind_blocks d bs) (behind-mapped os (past_block c (map g args)) ∙ ap (λ d. behind d os) (past-block-mapped c args))
 
+  -- an operation where it stands, with another name and other values
   abbrev pub mapped_site : OpSite N V → OpSite M W
   mapped_site x = record { at = x.at; head = mapped_head f g x.head; regions = mapped_regions f g x.regions }
 
@@ -281,5 +308,6 @@ module _ {N V M W : Type 0} (f : N → M) (g : V → W) where
         (ap (λ d. op_sites (parts d os')) at_d ∙ sites-mapped_from os d)
         (ap (λ e. op_sites (parts_of_blocks e bs')) at_e ∙ sites-mapped_blocks bs e)
 
+  -- the operations of a module with other names and values are those of the module, with these
   pub sites-mapped : (m : Ops N V) → ops_in (mapped f g m) ≡ map mapped_site (ops_in m)
   sites-mapped m = sites-mapped_from m first_numbers

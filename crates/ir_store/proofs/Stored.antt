@@ -27,13 +27,16 @@ use Rattle.ir_store.proofs.Inside.{inside-all, op-placed, region-placed, block-p
 use Rattle.ir_store.proofs.ReadBack.{are-ops, are-regions, are-blocks, op-row, region-row}
 use Rattle.ir_store.proofs.ReadBack.{block-row, module-rows}
 
+-- sound tables are those of their module
 pub stored : (s : Rows) (m : Module) → IsSound s → module_of s ≡ m → s ≡ rows_of m
 stored s m sound is = sound.made ∙ ap rows_of is
 
+-- the ids at top level name the operations there
 pub stored-top : (s : Rows) (m : Module) → s ≡ rows_of m → (ids : List OpId) → ids ≡ s.top
     → AreOps m first_numbers ids m
 stored-top s m is ids same = subst (λ ids. AreOps m first_numbers ids m) (sym (same ∙ ap (λ s. s.top) is)) (are-ops m m first_numbers (inside-all m))
 
+-- the ids in an operation's row name its regions
 pub stored-regions : (s : Rows) (m : Module) → s ≡ rows_of m → (op : OpId) (ids : List RegionId)
     → regions_at s op.0 ≡ Some ids
     → ForSome (op_at m op) (λ x. AreRegions m (past_op x.at x.head) ids x.regions)
@@ -43,6 +46,7 @@ stored-regions s m is op ids found = λ x e.
     let same : (op_node x).regions ≡ ids = cc in
     subst (λ ids. AreRegions m (past_op x.at x.head) ids x.regions) same (are-regions x.regions m (past_op x.at x.head) (op-placed m op x e).2)
 
+-- the ids in a region's row name its blocks
 pub stored-blocks : (s : Rows) (m : Module) → s ≡ rows_of m
     → (region : RegionId) (ids : List BlockId) → blocks_at s region.0 ≡ Some ids
     → ForSome (region_at m region) (λ x. AreBlocks m (past_region x.at) ids x.blocks)
@@ -52,6 +56,7 @@ stored-blocks s m is region ids found = λ x e.
     let same : (region_node x).blocks ≡ ids = cc in
     subst (λ ids. AreBlocks m (past_region x.at) ids x.blocks) same (are-blocks x.blocks m (past_region x.at) (region-placed m region x e).1)
 
+-- the ids in a block's row name its operations
 pub stored-ops : (s : Rows) (m : Module) → s ≡ rows_of m → (block : BlockId) (ids : List OpId)
     → ops_at s block.0 ≡ Some ids
     → ForSome (block_at m block) (λ x. AreOps m (past_block x.at x.args) ids x.ops)
@@ -61,6 +66,7 @@ stored-ops s m is block ids found = λ x e.
     let same : (block_node x).ops ≡ ids = cc in
     subst (λ ids. AreOps m (past_block x.at x.args) ids x.ops) same (are-ops x.ops m (past_block x.at x.args) (block-placed m block x e).2)
 
+-- an operation's row has the number of its first result
 pub stored-first : (s : Rows) (m : Module) → s ≡ rows_of m → (op : OpId) (n : ℕ)
     → first_at s op.0 ≡ Some n → ForSome (op_at m op) (λ x. n ≡ x.at.values)
 stored-first s m is op n found = λ x e.
@@ -68,6 +74,7 @@ stored-first s m is op n found = λ x e.
     let here : first_at s op.0 ≡ Some (op_node x).first = ap (option_map (λ n. n.first)) row in
     cc
 
+-- a block's row has the number of its first argument
 pub stored-args-at : (s : Rows) (m : Module) → s ≡ rows_of m → (block : BlockId) (p : ℕ × ℕ)
     → args_at s block.0 ≡ Some p → ForSome (block_at m block) (λ x. p.0 ≡ x.at.values)
 stored-args-at s m is block p found = λ x e.
@@ -76,10 +83,12 @@ stored-args-at s m is block p found = λ x e.
     let same : Path (Option (ℕ × ℕ)) (Some p) (Some ((block_node x).first, (block_node x).count)) = cc in
     ap (λ (q : Option (ℕ × ℕ)). elim q [ None ↦ 0 | Some r ↦ r.0 ]) same
 
+-- the values from an operation's first result on have the types of its results
 pub stored-results : (m : Module) (op : OpId) (n : ℕ) → ForSome (op_at m op) (λ x. n ≡ x.at.values)
     → ForSome (op_at m op) (λ x. HaveTypes m n x.head.results)
 stored-results m op n is = λ x e. subst (λ n. HaveTypes m n x.head.results) (sym (is x e)) (op-placed m op x e).1
 
+-- the values from a block's first argument on have the types of its arguments
 pub stored-args : (m : Module) (block : BlockId) (n : ℕ)
     → ForSome (block_at m block) (λ x. n ≡ x.at.values)
     → ForSome (block_at m block) (λ x. HaveTypes m n x.args)
@@ -98,11 +107,13 @@ pub when-ok : {T E : Type 0} (r : Result T E) (P Q : Type 0) → OnOk r P → (P
 when-ok (Ok x) P Q a f = f a
 when-ok (Err e) P Q a f = tt
 
+-- what follows from both things that a call says where it succeeds
 pub if-ok : {T E : Type 0} (r : Result T E) (P : Type 0) (I Q : T → Type 0) → OnOk r P → IfOk r I
     → ((x : T) → P → I x → Q x) → IfOk r Q
 if-ok (Ok x) P I Q a i f = f x a i
 if-ok (Err e) P I Q a i f = tt
 
+-- an open block has a row
 pub block-within : (s : Rows) (m : Module) (b : Option BlockId) → s ≡ rows_of m
     → IsOpen m (in_block b) → ForSome b (λ b. b.0 < length s.blocks)
 block-within s m b is is_open = λ x e.
@@ -110,6 +121,7 @@ block-within s m b is is_open = λ x e.
     let many = ap (λ c. c.blocks) (ap numbers_of is ∙ numbers-rows m) in
     omega arith
 
+-- an open operation has a row
 pub op-within : (s : Rows) (m : Module) (o : OpId) → s ≡ rows_of m → IsOpen m (in_op o)
     → o.0 < length s.ops
 op-within s m o is is_open =
@@ -117,6 +129,7 @@ op-within s m o is is_open =
     let many = ap (λ c. c.ops) (ap numbers_of is ∙ numbers-rows m) in
     omega arith
 
+-- an open region has a row
 pub region-within : (s : Rows) (m : Module) (r : RegionId) → s ≡ rows_of m → IsOpen m (in_region r)
     → r.0 < length s.regions
 region-within s m r is is_open =
@@ -157,6 +170,7 @@ right-changed f is [] i all = tt
 right-changed f is (x ∷ ns) zero all = (is x all.0, all.1)
 right-changed f is (x ∷ ns) (suc i) all = (all.0, right-changed f is ns i all.1)
 
+-- tables stay sound where an operation is added
 pub sound-op : (s t : Rows) (m : Module) (b : Option BlockId) (h : StoredHead) → IsSound s
     → module_of s ≡ m → IsOpen m (in_block b) → AttrsAreRight h → t ≡ with_op s b h → IsSound t
 sound-op s t m b h sound is is_open right made = record {
@@ -164,6 +178,7 @@ sound-op s t m b h sound is is_open right made = record {
   attrs = subst (λ t. AllByRecursion Right t.ops) (sym made) (right-push s.ops (record { head = h; first = length s.types; regions = [] }) sound.attrs right);
 }
 
+-- tables stay sound where a region is added
 pub sound-region : (s t : Rows) (m : Module) (o : OpId) → IsSound s → module_of s ≡ m
     → IsOpen m (in_op o) → t ≡ with_region s o → IsSound t
 sound-region s t m o sound is is_open made = record {
@@ -171,6 +186,7 @@ sound-region s t m o sound is is_open made = record {
   attrs = subst (λ t. AllByRecursion Right t.ops) (sym made) (right-changed (λ n. record n { regions = n.regions ++ region_id (length s.regions) ∷ [] }) (λ n r. r) s.ops o.0 sound.attrs);
 }
 
+-- tables stay sound where a block is added
 pub sound-block : (s t : Rows) (m : Module) (r : RegionId) (args : List ValueId) → IsSound s
     → module_of s ≡ m → IsOpen m (in_region r) → t ≡ with_block s r args → IsSound t
 sound-block s t m r args sound is is_open made = record {
@@ -191,6 +207,7 @@ opens-one m new a q is is_open has one =
       is = ap open_in is ∙ g.is ∙ ap (λ l. g.round ++ parent_of a ∷ l) (g.fresh has ∙ one);
     }
 
+-- what is open when an operation was put into a block, or at top level
 pub opens-op : (s : Rows) (m new : Module) (b : Option BlockId) (h : StoredHead) (id : OpId)
     → s ≡ rows_of m → new ≡ added m (to_block b (one_op h)) → IsOpen m (in_block b)
     → id.0 ≡ length s.ops
@@ -199,6 +216,7 @@ opens-op s m new b h id is made is_open count =
     let many : (behind first_numbers m).ops ≡ id.0 = sym (ap (λ c. c.ops) (ap numbers_of is ∙ numbers-rows m)) ∙ sym count in
     opens-one m new (to_block b (one_op h)) (in_op id) made is_open tt (ap (λ n. in_op (op_id n) ∷ []) many)
 
+-- what is open when a region was put into an operation
 pub opens-region : (s : Rows) (m new : Module) (o : OpId) (id : RegionId) → s ≡ rows_of m
     → new ≡ added m (to_op o one_region) → IsOpen m (in_op o) → id.0 ≡ length s.regions
     → Opens m new (in_op o) (in_region id)
@@ -206,6 +224,7 @@ opens-region s m new o id is made is_open count =
     let many : (behind first_numbers m).regions ≡ id.0 = sym (ap (λ c. c.regions) (ap numbers_of is ∙ numbers-rows m)) ∙ sym count in
     opens-one m new (to_op o one_region) (in_region id) made is_open tt (ap (λ n. in_region (region_id n) ∷ []) many)
 
+-- what is open when a block was put into a region
 pub opens-block : (s : Rows) (m new : Module) (r : RegionId) (args : List ValueId) (id : BlockId)
     → s ≡ rows_of m → new ≡ added m (to_region r (one_block args)) → IsOpen m (in_region r)
     → id.0 ≡ length s.blocks

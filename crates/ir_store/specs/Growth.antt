@@ -2,10 +2,16 @@
 --
 --   Parent             what operations, regions or blocks stand in: the top level or a block, an
 --                     operation, a region
+--   IsOneOf p ps      the place p is in a list
+--   open_ops, open_regions, open_blocks      the open places among what begins at some numbers
 --   open_in m         the open places of a module, from the top level inwards
 --   IsOpen m p        the place p is open
 --   Addition          what is put last, and in which place
+--   parent_of a       the place where an addition goes
+--   in_this_op, in_this_region, in_this_block      an addition at a number, or inside
+--   added_ops, added_regions, added_blocks         what begins at some numbers, with an addition
 --   added m a         the module with the addition
+--   one_op, one_region, one_block      what one call adds
 --   Opens old new parent child      what is open when a child was put into a parent
 use Rattle.std.specs.Prelude.{◌≡◌, ◌⊎◌, ℕ, List, [], ◌∷◌, ◌++◌, ◌==◌, if◌then◌else◌}
 use Rattle.std.specs.declared.option.Option.{Option}
@@ -49,6 +55,7 @@ module _ {N V : Type 0} where
     open_ops c (then_op head regions (then_op next more os)) =
         open_ops (behind_regions (past_op c head) regions) (then_op next more os)
 
+    -- what is open among regions that begin at c
     pub open_regions : Numbers → Regions N V → List Parent
     open_regions c no_regions = []
     open_regions c (region blocks no_regions) =
@@ -56,6 +63,7 @@ module _ {N V : Type 0} where
     open_regions c (region blocks (region next rs)) =
         open_regions (behind_blocks (past_region c) blocks) (region next rs)
 
+    -- what is open among blocks that begin at c
     pub open_blocks : Numbers → Blocks N V → List Parent
     open_blocks c no_blocks = []
     open_blocks c (block args ops no_blocks) =
@@ -69,6 +77,7 @@ module _ {N V : Type 0} where
   abbrev pub open_in : Ops N V → List Parent
   open_in m = in_block None ∷ open_ops first_numbers m
 
+  -- the place is one of the open ones
   pub record IsOpen (m : Ops N V) (p : Parent) : Type 0 where
     pub among : IsOneOf p (open_in m)
 
@@ -91,6 +100,7 @@ module _ {N V : Type 0} where
   in_this_region (to_block b more) n bs inside = inside
   in_this_region (to_op o more) n bs inside = inside
 
+  -- the operations of the block of a number, in the same way
   abbrev pub in_this_block : Addition N V → ℕ → Ops N V → Ops N V → Ops N V
   in_this_block (to_block (Some b) more) n os inside =
       if b.0 == n then joined_ops os more else inside
@@ -109,6 +119,7 @@ module _ {N V : Type 0} where
         then_op head regions
         (added_ops a (behind_regions (past_op c head) regions) (then_op next more os))
 
+    -- regions that begin at c, with the addition
     pub added_regions : Addition N V → Numbers → Regions N V → Regions N V
     added_regions a c no_regions = no_regions
     added_regions a c (region blocks no_regions) =
@@ -117,6 +128,7 @@ module _ {N V : Type 0} where
     added_regions a c (region blocks (region next rs)) =
         region blocks (added_regions a (behind_blocks (past_region c) blocks) (region next rs))
 
+    -- blocks that begin at c, with the addition
     pub added_blocks : Addition N V → Numbers → Blocks N V → Blocks N V
     added_blocks a c no_blocks = no_blocks
     added_blocks a c (block args ops no_blocks) =

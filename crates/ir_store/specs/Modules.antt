@@ -10,8 +10,11 @@
 --   Regions N V       a list of regions
 --   Blocks N V        a list of blocks
 --   types_in m        the types of all values of a module, in order of definition
+--   types_in_regions rs, types_in_blocks bs      those that regions and blocks define
 --   block_args bs, region_args rs      the types of the arguments of each block, of each region
+--   joined_ops os more, joined_regions, joined_blocks      a list, and others behind it
 --   mapped f g m      the module with f at each name and g at each type and value
+--   mapped_head, mapped_regions, mapped_blocks      the same of its parts
 use Rattle.std.specs.Prelude.{ℕ, List, [], ◌∷◌, ◌++◌, map}
 
 -- An operation without its regions. Operands are numbers of values, counted from 0 over the whole
@@ -49,10 +52,12 @@ module _ {N V : Type 0} where
     types_in no_ops = []
     types_in (then_op head regions os) = head.results ++ types_in_regions regions ++ types_in os
 
+    -- those that regions define
     pub types_in_regions : Regions N V → List V
     types_in_regions no_regions = []
     types_in_regions (region blocks rs) = types_in_blocks blocks ++ types_in_regions rs
 
+    -- those that blocks define
     pub types_in_blocks : Blocks N V → List V
     types_in_blocks no_blocks = []
     types_in_blocks (block args ops bs) = args ++ types_in ops ++ types_in_blocks bs
@@ -72,15 +77,18 @@ module _ {N V : Type 0} where
   joined_ops no_ops more = more
   joined_ops (then_op head regions os) more = then_op head regions (joined_ops os more)
 
+  -- these regions, and others behind them
   abbrev pub joined_regions : Regions N V → Regions N V → Regions N V
   joined_regions no_regions more = more
   joined_regions (region blocks rs) more = region blocks (joined_regions rs more)
 
+  -- these blocks, and others behind them
   abbrev pub joined_blocks : Blocks N V → Blocks N V → Blocks N V
   joined_blocks no_blocks more = more
   joined_blocks (block args ops bs) more = block args ops (joined_blocks bs more)
 
 module _ {N V M W : Type 0} (f : N → M) (g : V → W) where
+  -- an operation of another name, with other types and values
   abbrev pub mapped_head : OpHead N V → OpHead M W
   mapped_head h = record {
     name = f h.name;
@@ -98,10 +106,12 @@ module _ {N V M W : Type 0} (f : N → M) (g : V → W) where
     mapped (then_op head regions os) =
         then_op (mapped_head head) (mapped_regions regions) (mapped os)
 
+    -- the same of regions
     pub mapped_regions : Regions N V → Regions M W
     mapped_regions no_regions = no_regions
     mapped_regions (region blocks rs) = region (mapped_blocks blocks) (mapped_regions rs)
 
+    -- the same of blocks
     pub mapped_blocks : Blocks N V → Blocks M W
     mapped_blocks no_blocks = no_blocks
     mapped_blocks (block args ops bs) = block (map g args) (mapped ops) (mapped_blocks bs)

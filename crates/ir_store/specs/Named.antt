@@ -1,5 +1,6 @@
 -- What ids name: the id of an operation, a region or a block is its number in text order.
 --
+--   op_id n, region_id n, block_id n      the id of the number n
 --   op_at m op, region_at m region, block_at m block      what an id names, if the module has it
 --   AreOps m c ids ops        the ids are those of these operations, which begin at c in the module
 --   AreRegions, AreBlocks     the same of regions and of blocks
@@ -21,9 +22,11 @@ use Rattle.ir_store.specs.Numbering.{ops_in, regions_in, blocks_in}
 abbrev pub op_id : ℕ → OpId
 op_id n = record { 0 = n }
 
+-- the id of the region of this number
 abbrev pub region_id : ℕ → RegionId
 region_id n = record { 0 = n }
 
+-- the id of the block of this number
 abbrev pub block_id : ℕ → BlockId
 block_id n = record { 0 = n }
 
@@ -37,9 +40,11 @@ module _ {N V : Type 0} where
   abbrev pub op_at : Ops N V → OpId → Option (OpSite N V)
   op_at m op = slice_get (ops_in m) op.0
 
+  -- the region that an id names, if there is one
   abbrev pub region_at : Ops N V → RegionId → Option (RegionSite N V)
   region_at m r = slice_get (regions_in m) r.0
 
+  -- the block that an id names, if there is one
   abbrev pub block_at : Ops N V → BlockId → Option (BlockSite N V)
   block_at m b = slice_get (blocks_in m) b.0
 
@@ -58,6 +63,7 @@ module _ {N V : Type 0} where
   AreOps m c [] (then_op _ _ _) = ⊥
   AreOps m c (_ ∷ _) no_ops = ⊥
 
+  -- the same of regions
   abbrev pub AreRegions : Ops N V → Numbers → List RegionId → Regions N V → Type 0
   AreRegions m c [] no_regions = Unit {0}
   AreRegions m c (id ∷ ids) (region blocks rs) =
@@ -67,6 +73,7 @@ module _ {N V : Type 0} where
   AreRegions m c [] (region _ _) = ⊥
   AreRegions m c (_ ∷ _) no_regions = ⊥
 
+  -- the same of blocks
   abbrev pub AreBlocks : Ops N V → Numbers → List BlockId → Blocks N V → Type 0
   AreBlocks m c [] no_blocks = Unit {0}
   AreBlocks m c (id ∷ ids) (block args ops bs) =

@@ -2,9 +2,16 @@
 -- order.
 --
 --   Numbers            how many of each kind come before a place: the next one has that number
+--   first_numbers      those at the beginning of a module
+--   past_op, past_region, past_block      those behind the head of an operation, .. a block
 --   behind c ops       the numbers behind operations that begin at c
+--   behind_regions, behind_blocks      the same of regions and of blocks
 --   OpSite, RegionSite, BlockSite      an operation, a region, a block, and the numbers where it
 --                                      begins
+--   Part               an operation, a region or a block where it stands
+--   parts c ops        the parts of operations that begin at c, in text order
+--   parts_of_regions, parts_of_blocks       the same of regions and of blocks
+--   op_sites, region_sites, block_sites     those of one kind among some parts
 --   ops_in m, regions_in m, blocks_in m      those of a module, in text order
 use Rattle.std.specs.Prelude.{ℕ, ◌+◌, List, [], ◌∷◌, ◌++◌, length}
 use Rattle.ir_store.specs.Modules.{OpHead, Ops, Regions, Blocks}
@@ -63,10 +70,12 @@ module _ {N V : Type 0} where
     behind c no_ops = c
     behind c (then_op head regions os) = behind (behind_regions (past_op c head) regions) os
 
+    -- behind regions that begin at c
     pub behind_regions : Numbers → Regions N V → Numbers
     behind_regions c no_regions = c
     behind_regions c (region blocks rs) = behind_regions (behind_blocks (past_region c) blocks) rs
 
+    -- behind blocks that begin at c
     pub behind_blocks : Numbers → Blocks N V → Numbers
     behind_blocks c no_blocks = c
     behind_blocks c (block args ops bs) = behind_blocks (behind (past_block c args) ops) bs
@@ -80,6 +89,7 @@ module _ {N V : Type 0} where
         ∷ (parts_of_regions (past_op c head) regions
         ++ parts (behind_regions (past_op c head) regions) os)
 
+    -- the parts of regions that begin at c
     pub parts_of_regions : Numbers → Regions N V → List (Part N V)
     parts_of_regions c no_regions = []
     parts_of_regions c (region blocks rs) =
@@ -87,6 +97,7 @@ module _ {N V : Type 0} where
         ∷ (parts_of_blocks (past_region c) blocks
         ++ parts_of_regions (behind_blocks (past_region c) blocks) rs)
 
+    -- the parts of blocks that begin at c
     pub parts_of_blocks : Numbers → Blocks N V → List (Part N V)
     parts_of_blocks c no_blocks = []
     parts_of_blocks c (block args ops bs) =
@@ -101,12 +112,14 @@ module _ {N V : Type 0} where
   op_sites (a_region x ∷ ps) = op_sites ps
   op_sites (a_block x ∷ ps) = op_sites ps
 
+  -- the regions among these parts
   abbrev pub region_sites : List (Part N V) → List (RegionSite N V)
   region_sites [] = []
   region_sites (an_op x ∷ ps) = region_sites ps
   region_sites (a_region x ∷ ps) = x ∷ region_sites ps
   region_sites (a_block x ∷ ps) = region_sites ps
 
+  -- the blocks among these parts
   abbrev pub block_sites : List (Part N V) → List (BlockSite N V)
   block_sites [] = []
   block_sites (an_op x ∷ ps) = block_sites ps

@@ -1,7 +1,10 @@
 -- The module that tables stand for, read from its first operations down.
 --
+--   read_ops s n ids, read_regions, read_blocks      what ids name, in at most n steps
 --   module_of s    the module
 --   IsSound s      the tables are those of that module, and the attributes of each row are right
+--
+-- Inside: no public clause rests on this.
 use Rattle.std.specs.Prelude.{◌≡◌, ℕ, zero, suc, ◌+◌, List, [], ◌∷◌, length, slice_get, take, drop}
 use Rattle.std.specs.List.{AllByRecursion}
 use Rattle.std.specs.declared.option.Option.TheVariants.{Some, None}
@@ -25,6 +28,7 @@ abbrev mutual
     | Some n ↦ then_op n.head (read_regions s steps n.regions) (read_ops s steps ids)
   ]
 
+  -- the regions of these ids
   pub read_regions : Rows → ℕ → List RegionId → Regions OpName ValueId
   read_regions s zero ids = no_regions
   read_regions s (suc steps) [] = no_regions
@@ -33,6 +37,7 @@ abbrev mutual
     | Some n ↦ region (read_blocks s steps n.blocks) (read_regions s steps ids)
   ]
 
+  -- the blocks of these ids
   pub read_blocks : Rows → ℕ → List BlockId → Blocks OpName ValueId
   read_blocks s zero ids = no_blocks
   read_blocks s (suc steps) [] = no_blocks
@@ -46,6 +51,8 @@ abbrev mutual
 abbrev pub module_of : Rows → Module
 module_of s = read_ops s (length s.ops + length s.regions + length s.blocks) s.top
 
+-- the tables are those of the module that is read from them, and the attributes of each row are
+-- right
 pub record IsSound (s : Rows) : Type 0 where
   pub made : s ≡ rows_of (module_of s)
   pub attrs : AllByRecursion (λ n. AttrsAreRight n.head) s.ops

@@ -1,9 +1,18 @@
 -- The tables that a store keeps, and those of a module.
 --
---   Rows               tables of operations, regions, blocks and types
+--   OpNode, node_of e  a row of the table of operations, and that of an entry
+--   Rows, no_rows      tables of operations, regions, blocks and types; those of nothing
+--   op_ids c ops, region_ids, block_ids      the ids of what begins at c
+--   op_node x, region_node, block_node       the row of what stands at x
+--   op_nodes ps, region_nodes, block_nodes   the rows of some parts
 --   rows_of m          the tables of a module: at each place those ids that its parts have
+--   changed f i xs     the list with f at its i-th item
+--   top_with, blocks_with      operations that are put last at top level, or last in a block
 --   with_op s b head   the tables with one more operation; with_region and with_block likewise
---   head_at s i ..     what stands at a place of a table
+--   head_at s i, first_at, regions_at, blocks_at, ops_at, args_at      what stands at a place
+--                      of a table
+--
+-- Inside: no public clause rests on this.
 use Rattle.std.specs.Prelude.{ℕ, zero, suc, List, [], ◌∷◌, ◌++◌, length, map}
 use Rattle.std.specs.Prelude.{slice_get, option_map}
 use Rattle.std.specs.declared.option.Option.{Option}
@@ -42,6 +51,7 @@ pub record Rows : Type 0 where
   pub blocks : List BlockEntry
   pub types : List ValueId
 
+-- the tables of nothing
 abbrev pub no_rows : Rows
 no_rows = record { top = []; ops = []; regions = []; blocks = []; types = [] }
 
@@ -53,11 +63,13 @@ op_ids c no_ops = []
 op_ids c (then_op head regions os) =
     op_id c.ops ∷ op_ids (behind_regions (past_op c head) regions) os
 
+-- the ids of regions that begin at c
 abbrev pub region_ids : Numbers → Regions OpName ValueId → List RegionId
 region_ids c no_regions = []
 region_ids c (region blocks rs) =
     region_id c.regions ∷ region_ids (behind_blocks (past_region c) blocks) rs
 
+-- the ids of blocks that begin at c
 abbrev pub block_ids : Numbers → Blocks OpName ValueId → List BlockId
 block_ids c no_blocks = []
 block_ids c (block args ops bs) =
@@ -71,9 +83,11 @@ op_node x = record {
   regions = region_ids (past_op x.at x.head) x.regions;
 }
 
+-- the row of a region where it stands
 abbrev pub region_node : RegionSite OpName ValueId → RegionRow
 region_node x = record { blocks = block_ids (past_region x.at) x.blocks }
 
+-- the row of a block where it stands
 abbrev pub block_node : BlockSite OpName ValueId → BlockEntry
 block_node x = record {
   first = x.at.values;
@@ -85,12 +99,15 @@ block_node x = record {
 abbrev pub op_nodes : List (Part OpName ValueId) → List OpNode
 op_nodes ps = map op_node (op_sites ps)
 
+-- the rows of the regions among these parts
 abbrev pub region_nodes : List (Part OpName ValueId) → List RegionRow
 region_nodes ps = map region_node (region_sites ps)
 
+-- the rows of the blocks among these parts
 abbrev pub block_nodes : List (Part OpName ValueId) → List BlockEntry
 block_nodes ps = map block_node (block_sites ps)
 
+-- the tables of a module
 abbrev pub rows_of : Module → Rows
 rows_of m = record {
   top = op_ids first_numbers m;
@@ -151,9 +168,11 @@ with_block s r args = record s {
 abbrev pub head_at : Rows → ℕ → Option StoredHead
 head_at s i = option_map (λ n. n.head) (slice_get s.ops i)
 
+-- the number of the first result of the operation of an id
 abbrev pub first_at : Rows → ℕ → Option ℕ
 first_at s i = option_map (λ n. n.first) (slice_get s.ops i)
 
+-- the regions of the operation of an id
 abbrev pub regions_at : Rows → ℕ → Option (List RegionId)
 regions_at s i = option_map (λ n. n.regions) (slice_get s.ops i)
 
@@ -161,6 +180,7 @@ regions_at s i = option_map (λ n. n.regions) (slice_get s.ops i)
 abbrev pub blocks_at : Rows → ℕ → Option (List BlockId)
 blocks_at s r = option_map (λ n. n.blocks) (slice_get s.regions r)
 
+-- the operations of the block of an id
 abbrev pub ops_at : Rows → ℕ → Option (List OpId)
 ops_at s b = option_map (λ n. n.ops) (slice_get s.blocks b)
 

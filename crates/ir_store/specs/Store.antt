@@ -1,6 +1,7 @@
 -- Modules as a store has them: operations are named by numbers, types and values by ids.
 --
 --   OpName        the number of an operation's definition, and the place of the operation
+--   StoredHead    such an operation, without its regions
 --   Module        a module of such operations
 --   head_of row   what a row says of an operation
 use Rattle.std.specs.Prelude.{ℕ}

@@ -26,6 +26,7 @@ module _ {X Y : Type 0} (f : X → Y) (p : Y → Bool) where
   abbrev pub NoneBefore : List X → ℕ → Type 0
   NoneBefore xs i = (k : ℕ) (d : X) → k < i → p (f (get_or xs k d)) ≡ false
 
+  -- the first object of a name is found at its place
   pub first-at : (xs : List X) (i : ℕ) (d : X) → i < length xs → NoneBefore xs i
       → p (f (get_or xs i d)) ≡ true → Some i ≡ position p (map f xs)
   first-at xs i d within none here =
@@ -36,6 +37,7 @@ module _ {X Y : Type 0} (f : X → Y) (p : Y → Bool) where
       rw (place, is-below i (length xs) within) refl in
       first ∙ position-map xs
 
+  -- where none of the objects has the name, there is no place
   pub nowhere : (xs : List X) (i : ℕ) → length xs ≤ i → NoneBefore xs i
       → None ≡ position p (map f xs)
   nowhere [] i all none = refl

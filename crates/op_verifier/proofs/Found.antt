@@ -86,6 +86,7 @@ below-by x y key Equal is less =
     rw first (omega arith)
 below-by x y key Greater is less = index-at-most (compare_texts x key)
 
+-- as keys ascend, how they compare with a key never falls
 pub rises : (keys : List (List ℕ)) (key : List ℕ) → Ascend keys
     → IsNonDecreasingBy (λ y. ordering_index (compare_texts y key)) keys
 rises keys key h i j d le within = elim (cases_eq i j) [
@@ -140,6 +141,7 @@ found-nowhere (own ∷ keys) (id ∷ ids) key each =
     ap (λ b. cond b (Some id) (attr_at (zip keys ids) key)) (differs own key (each 0 (omega arith)))
     ∙ found-nowhere keys ids key (λ j less. each (suc j) (omega arith))
 
+-- at a point that parts lesser keys from greater ones, no key is equal
 pub apart : (keys : List (List ℕ)) (key : List ℕ) (i : ℕ)
     → IsPartitionPoint (λ y. compare_texts y key ≡ Less) (λ y. compare_texts y key ≡ Greater)
     keys i
@@ -155,7 +157,8 @@ abbrev pub value_of : List Value → Option ValueId → Option Value
 value_of values o = option_map (λ (id : ValueId). at values id.0) o
 
 -- the value of a key is that of its id
-pub attr_at-attrs_seen : (values : List Value) (keys : List (List ℕ)) (ids : List ValueId) (key : List ℕ)
+pub attr_at-attrs_seen : (values : List Value) (keys : List (List ℕ)) (ids : List ValueId)
+    (key : List ℕ)
     → attr_at (attrs_seen values keys ids) key
     ≡ value_of values (attr_at (zip keys ids) key)
 attr_at-attrs_seen values [] ids key = refl

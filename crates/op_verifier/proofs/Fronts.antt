@@ -85,6 +85,7 @@ operation-is o p operands results successors attrs = λ i. record {
   regions = p.regions;
 }
 
+-- to have the same fronts goes both ways
 pub fronts-have : (o p : Operation) → HasFronts o p → HasFronts p o
 fronts-have o p same = record {
   operands = sym same.operands;

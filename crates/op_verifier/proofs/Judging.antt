@@ -25,6 +25,7 @@ use Rattle.op_verifier.proofs.RootLists.{none-within, roots-within, within-roots
 use Rattle.op_verifier.proofs.RootLists.{roots-ids}
 
 module _ (values : List Value) (tests : Tests) (d : OpDef) (o : Operation) where
+  -- an assignment that meets the body and all parts shows that the operation meets its definition
   pub meets-of-parts : (a : Assignment) → MeetsBody values tests d.body a → HasParts d o a
       → MeetsDefinition values tests d o
   meets-of-parts a body parts = record {
@@ -43,6 +44,7 @@ module _ (values : List Value) (tests : Tests) (d : OpDef) (o : Operation) where
     };
   }
 
+  -- the assignment by which an operation meets its definition has all parts
   pub parts-of-meets : (m : MeetsDefinition values tests d o) → HasParts d o m.assignment
   parts-of-meets m = record {
     operands = record {
@@ -86,6 +88,7 @@ module _ (values : List Value) (tests : Tests) (d : OpDef) (o : Operation) where
       never m.assignment m.meets.body (subst (λ l. HasRoots values l m.assignment) (sym same)
       (within-roots values t m.assignment within.0))
 
+-- what is asked makes roots of the body
 pub roots-sound : (len : ℕ) (body : Body) (t : Slots) (roots : List (VarId × ValueId))
     → roots ≡ roots_of 0 t → length t ≡ length body.vars → AreKnownIds len t
     → AreRoots len body roots
@@ -117,7 +120,8 @@ named-meets values tests defs types x d b e judged = (
   λ yes. record { definition = d; named = e; meets = judged.0 yes },
   λ m.
       let same : m.definition ≡ d = let f = m.named in cc in
-      judged.1 (subst (λ k. MeetsDefinition values tests k (operation_seen values types x)) same m.meets),
+      judged.1 (subst (λ k. MeetsDefinition values tests k (operation_seen values types x)) same
+      m.meets),
 )
 
 -- an operation with the same fronts gets the same answer
@@ -129,17 +133,20 @@ same-answer values tests d o p b same judged = (
   λ m. judged.1 (fronts-meet values tests d o p same m),
 )
 
+-- the types of values of a module are known where all its types are
 pub operands-known : (len : ℕ) (m : Module) (numbers : List ℕ) → AreKnown len (types_in m)
     → AllByRecursion (λ n. n < length (types_in m)) numbers → AreKnown len (map (type_in m) numbers)
 operands-known len m [] known all = tt
 operands-known len m (n ∷ numbers) known all =
     (type-known len m n known all.0, operands-known len m numbers known all.1)
 
+-- what follows from P holds of each item of which P does
 pub all-map : {X : Type 0} (P Q : X → Type 0) (xs : List X) → ((x : X) → P x → Q x)
     → AllByRecursion P xs → AllByRecursion Q xs
 all-map P Q [] f all = tt
 all-map P Q (x ∷ xs) f all = (f x all.0, all-map P Q xs f all.1)
 
+-- a module that can be judged has known ids
 pub judge-ids : (count len : ℕ) (m : Module) → CanJudge count len m → HasIds len m
 judge-ids count len m can = record {
   types = can.types;

@@ -56,6 +56,7 @@ module _ (entries : List Entry) (sizes : List ℕ) (vs : List Value) (i start : 
             (drop-drop n start vs) two.1,
       )
 
+  -- and the other way round
   pub segment-joined : (a : Assignment) → slice_get entries i ≡ Some entry
       → slice_get sizes i ≡ Some n
       → AllByRecursion (Has a entry.var) (take ((start + n) - start) (drop start vs))
@@ -72,11 +73,13 @@ module _ (entries : List Entry) (sizes : List ℕ) (vs : List Value) (i start : 
       subst (λ es. EntriesHave a es (parts (drop i sizes) (drop start vs)))
       (sym (drop-next entries i entry e)) one
 
+-- the sizes from a place on are the one there and those behind it
 pub sum-next : (sizes : List ℕ) (i n : ℕ) → slice_get sizes i ≡ Some n
     → sum (drop i sizes) ≡ n + sum (drop (i + 1) sizes)
 sum-next sizes i n e =
     ap sum (drop-next sizes i n e) ∙ sum_by-cons (λ x. x) n (drop (i + 1) sizes)
 
+-- where no entry is left, nothing is asked
 pub all-entries : (a : Assignment) (entries : List Entry) (sizes : List ℕ) (i : ℕ) (vs : List Value)
     → drop i entries ≡ [] → drop i sizes ≡ []
     → EntriesHave a (drop i entries) (parts (drop i sizes) vs)

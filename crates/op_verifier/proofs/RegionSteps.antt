@@ -43,6 +43,7 @@ types-next m n (suc k) some =
     let same : k ≡ suc k - 1 = omega arith in
     ap (λ j. type_in m n ∷ types_from m (n + 1) j) same
 
+-- the types from a place on are the one there and those behind it
 pub types-at : (m : Module) (first i count : ℕ) → i < count
     → types_from m (first + i) (count - i)
     ≡ type_in m (first + i) ∷ types_from m (first + (i + 1)) (count - (i + 1))
@@ -66,6 +67,7 @@ module _ (values : List Value) (m : Module) (vars : List VarId) (first i : ℕ) 
       subst (λ ts. HaveEach a (var ∷ drop (i + 1) vars) (values_at values ts))
       (types-at m first i (length vars) less) one
 
+  -- and the other way round
   pub each-joined : (a : Assignment) → slice_get vars i ≡ Some var → i < length vars
       → Has a var (at values (type_in m (first + i)).0)
       → HaveEach a (drop (i + 1) vars)
@@ -77,6 +79,7 @@ module _ (values : List Value) (m : Module) (vars : List VarId) (first i : ℕ) 
       subst (λ vs. HaveEach a vs (values_at values (types_from m (first + i) (length vars - i))))
       (sym (drop-next vars i var e)) one
 
+-- where no argument is left, nothing is asked
 pub each-none : (values : List Value) (m : Module) (vars : List VarId) (first i : ℕ)
     (a : Assignment) → length vars ≤ i
     → HaveEach a (drop i vars) (values_at values (types_from m (first + i) (length vars - i)))
@@ -87,6 +90,7 @@ each-none values m vars first i a past =
     subst (λ vs. HaveEach a vs (values_at values (types_from m (first + i) (length vars - i))))
     (sym (drop_of_length-le vars {i = i} past)) empty
 
+-- the type of a value of the module is known
 pub type-known : (n : ℕ) (m : Module) (k : ℕ) → AreKnown n (types_in m) → k < length (types_in m)
     → (type_in m k).0 < n
 type-known n m k known within =
@@ -106,6 +110,7 @@ args-are m n (x ∷ xs) have =
     subst (λ k. slice_get (types_in m) k ≡ Some t) next (have (suc i) t e)) in
     cc
 
+-- the arguments of a block are values of the module
 pub args-there : (m : Module) (n : ℕ) (args : List ValueId) → HaveTypes m n args
     → (i : ℕ) → i < length args → n + i < length (types_in m)
 args-there m n args have i within =
@@ -121,6 +126,7 @@ pub record FirstBlock (m : Module) (id : BlockId) (values : List Value)
   pub others : List (List Value)
   pub seen : blocks_seen values bs ≡ values_at values site.args ∷ others
 
+-- the first id of a region's blocks names the first block
 pub first-block : (m : Module) (c : Numbers) (values : List Value) (ids : List BlockId)
     (id : BlockId) (bs : Blocks OpName ValueId) → AreBlocks m c ids bs → slice_get ids 0 ≡ Some id
     → FirstBlock m id values bs
@@ -136,6 +142,7 @@ first-block m c values (x ∷ xs) id (block args ops bs) are e =
       seen = refl;
     }
 
+-- where there is no id, there is no block
 pub no-block : (m : Module) (c : Numbers) (values : List Value) (ids : List BlockId)
     (bs : Blocks OpName ValueId) → AreBlocks m c ids bs → length ids ≡ 0
     → blocks_seen values bs ≡ []
@@ -143,6 +150,7 @@ no-block m c values [] no_blocks are none = refl
 no-block m c values [] (block args ops bs) are none = absurd are
 no-block m c values (x ∷ xs) bs are none = absurd (omega arith)
 
+-- there are as many ids as blocks
 pub blocks-count : (m : Module) (c : Numbers) (values : List Value) (ids : List BlockId)
     (bs : Blocks OpName ValueId) → AreBlocks m c ids bs
     → length ids ≡ length (blocks_seen values bs)
@@ -164,7 +172,8 @@ module _ (values : List Value) (m : Module) (vars : List VarId) (id : BlockId)
         let each = subst (ArgsHave a (Some vars)) first.seen have in
         let long = have-lengths a vars (values_at values first.site.args) each in
         let same = counts first.site first.named in
-        differ (same ∙ sym (length-map first.site.args (λ (id : ValueId). at values id.0)) ∙ sym long);
+        differ (same ∙ sym (length-map first.site.args (λ (id : ValueId). at values id.0)) ∙ sym
+        long);
   }
 
   block-seen : (a : Assignment) (count n : ℕ) (first : FirstBlock m id values bs)
@@ -226,6 +235,7 @@ pub record RegionsLeft (values : List Value) (m : Module) (entries : List Region
   pub rest : Rest values old now (λ a. RegionsHave a entries (regions_seen values regions))
       (λ a. RegionsHave a (drop i entries) (regions_seen values left))
 
+-- at first all regions are left
 pub regions-start : (values : List Value) (m : Module) (c : Numbers) (entries : List RegionEntry)
     (ids : List RegionId) (s : Slots) (regions : Regions OpName ValueId)
     → AreKnownIds (length values) s → AreRegions m c ids regions
@@ -260,6 +270,7 @@ next-by values m c ids i id (region blocks rs) are = record {
   seen = refl;
 }
 
+-- the id at a place names the next region that is left
 pub region-next : (values : List Value) (m : Module) (c : Numbers) (ids : List RegionId) (i : ℕ)
     (id : RegionId) (left : Regions OpName ValueId) → slice_get ids i ≡ Some id
     → AreRegions m c (drop i ids) left → RegionNext values m ids i id left
@@ -290,6 +301,7 @@ module _ (values : List Value) (m : Module) (entries : List RegionEntry) (ids : 
       subst (λ es. RegionsHave a es (regions_seen values left))
       (sym (drop-next entries i entry e)) one
 
+  -- the next region is asked
   pub regions-step : (new : Slots) → slice_get entries i ≡ Some entry → slice_get ids i ≡ Some id
       → RegionsLeft values m entries ids i old now regions
       → ((x : RegionSite OpName ValueId) → region_at m id ≡ Some x
@@ -306,6 +318,7 @@ module _ (values : List Value) (m : Module) (entries : List RegionEntry) (ids : 
             (asks next.site next.named);
       }
 
+  -- a region that is refused refuses them all
   pub regions-refuse : slice_get entries i ≡ Some entry → slice_get ids i ≡ Some id
       → RegionsLeft values m entries ids i old now regions
       → ((x : RegionSite OpName ValueId) → region_at m id ≡ Some x
@@ -316,6 +329,7 @@ module _ (values : List Value) (m : Module) (entries : List RegionEntry) (ids : 
       rest-refused state.rest (λ a have. (next-split state.left next e a have).0)
       (refuses next.site next.named)
 
+-- where no region is left, all were asked
 pub regions-end : (values : List Value) (m : Module) (entries : List RegionEntry)
     (ids : List RegionId) (i : ℕ) (old now : Slots) (regions : Regions OpName ValueId)
     → length entries ≤ i → length ids ≤ i

@@ -16,10 +16,12 @@ use Rattle.op_verifier.specs.Parts.{root_of, roots_of}
 use Rattle.constraint_solver.proofs.Given.{has-slot, slot-has}
 use Rattle.op_verifier.proofs.Walks.{drop-next}
 
+-- the roots from a place on are that of the slot there and those behind it
 pub roots-next : (slots : Slots) (i : ℕ) (slot : Option ValueId) → slice_get slots i ≡ Some slot
     → roots_of i (drop i slots) ≡ root_of i slot ++ roots_of (i + 1) (drop (i + 1) slots)
 roots-next slots i slot e = ap (roots_of i) (drop-next slots i slot e)
 
+-- behind the last slot there is no root
 pub roots-end : (slots : Slots) (i : ℕ) → length slots ≤ i → roots_of i (drop i slots) ≡ []
 roots-end slots i past = ap (roots_of i) (drop_of_length-le slots {i = i} past)
 
@@ -86,6 +88,7 @@ roots-within values slots a all v x has =
     (within-of-roots values 0 slots a all v.0 slot.id slot.stands)
     ∙ ap (λ y. Some (Some y)) slot.value
 
+-- a map that has what is asked has the roots
 pub within-roots : (values : List Value) (slots : Slots) (a : Assignment)
     → IsWithin (assigned values slots) a → AllByRecursion (RootHas values a) (roots_of 0 slots)
 within-roots values slots a within =
@@ -103,6 +106,7 @@ roots-vars n total (None ∷ slots) within = roots-vars (n + 1) total slots (ome
 roots-vars n total (Some id ∷ slots) within =
     (omega arith, roots-vars (n + 1) total slots (omega arith))
 
+-- the roots have known ids where the slots do
 pub roots-ids : (n len : ℕ) (slots : Slots) → AreKnownIds len slots
     → AllByRecursion (λ (root : VarId × ValueId). root.1.0 < len) (roots_of n slots)
 roots-ids n len [] known = tt
@@ -110,12 +114,14 @@ roots-ids n len (None ∷ slots) known = roots-ids (n + 1) len slots (λ i id e.
 roots-ids n len (Some id ∷ slots) known =
     (known 0 id refl, roots-ids (n + 1) len slots (λ i id e. known (suc i) id e))
 
+-- where nothing is asked, all that is asked is known
 pub none-known : (len : ℕ) (slots : Slots) → AllByRecursion (λ slot. slot ≡ None) slots
     → AreKnownIds len slots
 none-known len [] all i id e = cc
 none-known len (slot ∷ slots) all zero id e = let none : slot ≡ None = all.0 in cc
 none-known len (slot ∷ slots) all (suc i) id e = none-known len slots all.1 i id e
 
+-- where nothing is asked, each map has it
 pub none-within : (values : List Value) (slots : Slots) → AllByRecursion (λ slot. slot ≡ None) slots
     → (a : Assignment) → IsWithin (assigned values slots) a
 none-within values slots all a = roots-within values slots a (empty 0 slots all) where
@@ -138,6 +144,7 @@ made-step slots i slot before after all e grown made =
     ∙ append_assoc before (root_of i slot) (roots_of (i + 1) (drop (i + 1) slots))
     ∙ ap (λ l. before ++ l) (sym (roots-next slots i slot e)) ∙ made
 
+-- behind the last slot the list has all roots
 pub made-all : (slots : Slots) (i : ℕ) (before all : List (VarId × ValueId)) → length slots ≤ i
     → before ++ roots_of i (drop i slots) ≡ all → before ≡ all
 made-all slots i before all past made =

@@ -36,15 +36,18 @@ take-next xs i end x e less =
     ∙ take-some (drop (i + 1) xs) (end - i) x (omega arith)
     ∙ ap (λ k. x ∷ take k (drop (i + 1) xs)) one
 
+-- nothing stands between a place and an end before it
 pub take-none : {X : Type 0} (xs : List X) (i end : ℕ) → end ≤ i → take (end - i) xs ≡ []
 take-none xs i end past = let none : end - i ≡ 0 = omega arith in ap (λ k. take k xs) none
 
+-- the value of the id at a place
 pub value-at : (values : List Value) (ids : List ValueId) (i : ℕ) (id : ValueId)
     → slice_get ids i ≡ Some id → slice_get (values_at values ids) i ≡ Some (at values id.0)
 value-at values ids i id e =
     slice_get-map (λ (id : ValueId). at values id.0) ids i
     ∙ ap (option_map (λ (id : ValueId). at values id.0)) e
 
+-- an id of a list is known where all are
 pub known-at : (n : ℕ) (ids : List ValueId) (i : ℕ) (id : ValueId) → AreKnown n ids
     → slice_get ids i ≡ Some id → id.0 < n
 known-at n [] i id known e = cc
@@ -52,6 +55,7 @@ known-at n (x ∷ xs) zero id known e =
     let same : x ≡ id = cc in subst (λ (k : ValueId). k.0 < n) same known.0
 known-at n (x ∷ xs) (suc i) id known e = known-at n xs i id known.1 e
 
+-- what holds of each element holds of the one at a place
 pub all-get : {X : Type 0} (P : X → Type 0) (xs : List X) (i : ℕ) (x : X) → AllByRecursion P xs
     → slice_get xs i ≡ Some x → P x
 all-get P [] i x all e = cc

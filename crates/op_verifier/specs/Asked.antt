@@ -1,6 +1,7 @@
 -- Values that are asked of variables, one after the other. For each variable there is a slot, which
 -- has the id of the value that was asked, if one was; `assigned` is the map of these values.
 --
+--   Slots                              for each variable the id that is asked of it, if one is
 --   Rest values old now Q R            what was asked since, and R, is the same as Q
 --   Asks values old new Q              what was asked since is Q
 --   Refuses values old Q               no map above old has Q

@@ -11,6 +11,7 @@
 --   AllMeet .. m                  each operation of the module does
 --   IsFirstFault .. m id at       the operation of this id is the first that doesn't, and stands
 --                                 at this place
+--   SameFront, SameFronts         the same of one region's blocks, and of some regions
 --   HasFronts o p                 two operations differ at most in the blocks behind the first ones
 use Rattle.std.specs.Prelude.{◌≡◌, ℕ, ◌<◌, List, [], ◌∷◌, length, slice_get}
 use Rattle.std.specs.List.{AllByRecursion}
@@ -35,21 +36,27 @@ pub record MeetsNamed (values : List Value) (tests : Tests) (defs : List OpDef)
   pub named : slice_get defs site.head.name.def ≡ Some definition
   pub meets : MeetsDefinition values tests definition (operation_seen values types site)
 
+-- the operation names one of so many definitions
 abbrev pub NamesDef : ℕ → Site → Type 0
 NamesDef count site = site.head.name.def < count
 
+-- It names one of so many definitions, its operands are values of the module, and its attributes
+-- have values of a table of so many.
 pub record IsJudgeable (count len : ℕ) (m : Module) (site : Site) : Type 0 where
   pub def : NamesDef count site
   pub operands : AllByRecursion (λ n. n < length (types_in m)) site.head.operands
   pub values : AreKnown len site.head.values
 
+-- each operation of the module is such, and its types are in the table
 pub record CanJudge (count len : ℕ) (m : Module) : Type 0 where
   pub types : AreKnown len (types_in m)
   pub ops : AllByRecursion (IsJudgeable count len m) (ops_in m)
 
+-- the operation meets the definition that it names, with the types that its operands have
 abbrev pub MeetsStored : List Value → Tests → List OpDef → Module → Site → Type 0
 MeetsStored values tests defs m site = MeetsNamed values tests defs (operand_types m site) site
 
+-- each operation of the module does
 abbrev pub AllMeet : List Value → Tests → List OpDef → Module → Type 0
 AllMeet values tests defs m = (id : OpId) (site : Site) → op_at m id ≡ Some site
     → MeetsStored values tests defs m site
@@ -71,6 +78,7 @@ SameFront (args ∷ blocks) (others ∷ more) = (args ≡ others) × (length blo
 SameFront [] (others ∷ more) = ⊥
 SameFront (args ∷ blocks) [] = ⊥
 
+-- there are as many regions, and those at one place have the same front
 abbrev pub SameFronts : List (List (List Value)) → List (List (List Value)) → Type 0
 SameFronts [] [] = Unit {0}
 SameFronts (blocks ∷ regions) (more ∷ others) = SameFront blocks more × SameFronts regions others

@@ -4,8 +4,11 @@
 --                                         the entries' variables
 --   HasParts d o a                        all but the body of the definition d is met by a
 --   types_from m n k                      the types of k values of a module, from the number n on
+--   root_of n slot                        the variable n with its value, where it has one
 --   roots_of n slots                      each variable that has a value, with it; the first
 --                                         has the number n
+--
+-- Inside: no public clause rests on this.
 use Rattle.std.specs.Prelude.{◌≡◌, ℕ, zero, suc, ◌+◌, List, [], ◌∷◌, ◌++◌, length, ℤ}
 use Rattle.std.specs.List.{AllByRecursion}
 use Rattle.std.specs.declared.option.Option.{Option}
@@ -24,12 +27,14 @@ use Rattle.ir_store.specs.Store.{Module}
 use Rattle.op_verifier.specs.Asked.{Slots}
 use Rattle.op_verifier.specs.Seen.{type_in}
 
+-- some sizes cut the values into segments, whose values are those of the entries' variables
 pub record HasSegments (a : Assignment) (entries : List Entry) (values : List Value)
     (given : Option (List ℤ)) : Type 0 where
   pub sizes : List ℕ
   pub segments : Segments entries (length values) given sizes
   pub have : EntriesHave a entries (parts sizes values)
 
+-- all that a definition says but its body is met by this assignment
 pub record HasParts (d : OpDef) (o : Operation) (a : Assignment) : Type 0 where
   pub operands : HasSegments a d.operands o.operands
       (given_sizes (attr_at o.attrs operand_sizes_key))
@@ -39,6 +44,7 @@ pub record HasParts (d : OpDef) (o : Operation) (a : Assignment) : Type 0 where
   pub successors : o.successors ≡ length d.successors
   pub regions : RegionsHave a d.regions o.regions
 
+-- the types of so many values of a module, from a number on
 abbrev pub types_from : Module → ℕ → ℕ → List ValueId
 types_from m n zero = []
 types_from m n (suc k) = type_in m n ∷ types_from m (n + 1) k

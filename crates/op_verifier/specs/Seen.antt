@@ -2,8 +2,10 @@
 --
 -- In a stored module types and values are ids of a table of values, which is `values` throughout.
 --
+--   Site                           an operation where it stands in a stored module
 --   values_at values ids           the values of these ids
 --   attrs_seen values keys ids     attributes, each key with the value at its place
+--   blocks_seen values blocks      for each block the types of its arguments
 --   regions_seen values regions    for each block of each region the types of its arguments
 --   operation values types head regions      an operation by its parts in the store, where its
 --                                  operands have these types
@@ -26,6 +28,7 @@ use Rattle.ir_store.specs.Store.{OpName, StoredHead, Module}
 abbrev pub Site : Type 0
 Site = OpSite OpName ValueId
 
+-- the values of these ids
 abbrev pub values_at : List Value → List ValueId → List Value
 values_at values ids = map (λ id. at values id.0) ids
 
@@ -38,6 +41,7 @@ abbrev pub blocks_seen : List Value → Blocks OpName ValueId → List (List Val
 blocks_seen values no_blocks = []
 blocks_seen values (block args ops blocks) = values_at values args ∷ blocks_seen values blocks
 
+-- for each region what its blocks are
 abbrev pub regions_seen : List Value → Regions OpName ValueId → List (List (List Value))
 regions_seen values no_regions = []
 regions_seen values (region blocks regions) =
@@ -53,6 +57,7 @@ operation values types head regions = record {
   regions = regions_seen values regions;
 }
 
+-- the operation at a site
 abbrev pub operation_seen : List Value → List ValueId → Site → Operation
 operation_seen values types site = operation values types site.head site.regions
 
@@ -60,6 +65,7 @@ operation_seen values types site = operation values types site.head site.regions
 abbrev pub type_in : Module → ℕ → ValueId
 type_in m n = slice_index_or (types_in m) n (record { 0 = 0 })
 
+-- the types of the operands at a site
 abbrev pub operand_types : Module → Site → List ValueId
 operand_types m site = map (type_in m) site.head.operands
 

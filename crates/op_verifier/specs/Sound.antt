@@ -1,5 +1,7 @@
 -- Which definitions operations can be judged by.
 --
+--   EntriesAreBelow n entries     operands or results name the first n variables
+--   AttrsAreBelow, RegionsAreBelow      attributes do, and regions
 --   NamesAreBelow n d             the definition d names the first n variables alone
 --   IsSoundOp len count d         d is over a table of len values and count predicates, and names
 --                                 variables of its body alone
@@ -17,9 +19,11 @@ use Rattle.dialect_defs.specs.Bodies.{IsSoundBody, AreBelow}
 abbrev pub EntriesAreBelow : ℕ → List Entry → Type 0
 EntriesAreBelow n entries = AllByRecursion (λ entry. entry.var.0 < n) entries
 
+-- each attribute names one of the first n variables
 abbrev pub AttrsAreBelow : ℕ → List AttrEntry → Type 0
 AttrsAreBelow n entries = AllByRecursion (λ entry. entry.var.0 < n) entries
 
+-- the declared arguments of each region are some of the first n variables
 abbrev pub RegionsAreBelow : ℕ → List RegionEntry → Type 0
 RegionsAreBelow n entries = AllByRecursion (λ entry. IfSome entry.args (AreBelow n)) entries
 
@@ -38,5 +42,6 @@ pub record IsSoundOp (len count : ℕ) (d : OpDef) : Type 0 where
   pub body : IsSoundBody len count d.body
   pub names : NamesAreBelow (length d.body.vars) d
 
+-- each definition of a list is sound
 abbrev pub AreSoundOps : ℕ → ℕ → List OpDef → Type 0
 AreSoundOps len count defs = AllByRecursion (IsSoundOp len count) defs

@@ -95,7 +95,8 @@ pub fn meets(
     ensures meets { ForSome (op_at store.now op) (λ x. IsTrue result
         ↔ MeetsNamed u.now (tests property natives.now) defs.now operands.now x) }
     ensures fronts { ForSome (op_at store.now op) (λ x. (d : Def) (o : Operation)
-        → slice_get defs.now x.head.name.def ≡ Some d → HasFronts o (operation_seen u.now operands.now x)
+        → slice_get defs.now x.head.name.def ≡ Some d
+        → HasFronts o (operation_seen u.now operands.now x)
         → (IsTrue result ↔ MeetsDefinition u.now (tests property natives.now) d o)) }
 {
     let def = definition(defs, store, op);

@@ -65,6 +65,7 @@ size-loose Single rest z = absurd (omega arith)
 size-loose Optional rest z = refl
 size-loose Variadic rest z = refl
 
+-- sizes that fit are in all as many as the single entries at least
 pub sum-at-least : (es : List Entry) (s : List ℕ) → FitEach es s
     → length es ≤ sum s + flexible es
 sum-at-least [] [] h = omega arith
@@ -73,6 +74,7 @@ sum-at-least (e ∷ es) (n ∷ ns) h =
 sum-at-least [] (n ∷ ns) h = absurd h
 sum-at-least (e ∷ es) [] h = absurd h
 
+-- the entries that aren't single are some of the entries
 pub flexible-le-length : (es : List Entry) → flexible es ≤ length es
 flexible-le-length [] = omega arith
 flexible-le-length (e ∷ es) = omega (arith, flexible-le-length es, loose-at-most e.arity)
@@ -141,6 +143,7 @@ negative g s i h e =
     ap (λ l. get_or l i (pos 0)) e ∙ get_or-map pos s i 0 in
     omega (arith, ints)
 
+-- lists of natural numbers that are equal as signed numbers are equal
 pub naturals-same : (s t : List ℕ) → map pos s ≡ map pos t → s ≡ t
 naturals-same [] [] e = refl
 naturals-same [] (y ∷ t) e = cc
@@ -182,6 +185,7 @@ checked-only r es n g t s same check h =
     subst (λ l. IsSomeAnd r (λ v. v.items ≡ l)) (sym same)
     (check (subst (FitEach es) same h.fit) (ap sum (sym same) ∙ h.total))
 
+-- where at most one entry isn't single, the sizes are those that `spread` gives
 pub few-only : (r : Option (ArrayVec ℕ)) (es : List Entry) (n rest : ℕ) (g : Option (List ℤ))
     (t : List ℕ) → flexible es < 2 → rest ≡ n - (length es - flexible es) → t ≡ spread es rest
     → (FitEach es t → sum t ≡ n → IsSomeAnd r (λ v. v.items ≡ t))
@@ -197,17 +201,20 @@ given-is es n g l s many e h =
     let given : g ≡ Some (map pos s) = h.as_given (many-need es many) in
     cc
 
+-- where sizes have to be given, there is one for each entry
 pub given-length : (es : List Entry) (n : ℕ) (g : Option (List ℤ)) (l : List ℤ) (s : List ℕ)
     → 2 ≤ flexible es → g ≡ Some l → Segments es n g s → length l ≡ length es
 given-length es n g l s many e h =
     ap length (given-is es n g l s many e h) ∙ length-map s pos ∙ FitEach-length es s h.fit
 
+-- where sizes have to be given and aren't, there are none
 pub given-none : (es : List Entry) (n : ℕ) (g : Option (List ℤ)) (s : List ℕ)
     → 2 ≤ flexible es → g ≡ None → Segments es n g s → ⊥
 given-none es n g s many e h =
     let given : g ≡ Some (map pos s) = h.as_given (many-need es many) in
     cc
 
+-- where sizes have to be given, the sizes are the given ones
 pub given-only : (r : Option (ArrayVec ℕ)) (es : List Entry) (n : ℕ) (g : Option (List ℤ))
     (l : List ℤ) (t : List ℕ) → 2 ≤ flexible es → g ≡ Some l → l ≡ map pos t
     → (FitEach es t → sum t ≡ n → IsSomeAnd r (λ v. v.items ≡ t))

@@ -24,7 +24,8 @@ pub returns-then-not-assign : goal.returns-then-not-assign
 returns-then-not-assign c =
     let u = c.args.u.now in
     let old = assigned u c.args.slots.now.ids in
-    Forces-false (all-refuted u c.args.n old c.args.vars.now c.args.id (assigned u c.loop-var.slots.ids)
+    Forces-false (all-refuted u c.args.n old c.args.vars.now c.args.id (assigned u
+    c.loop-var.slots.ids)
     c.loop-var.var-index c.loop-var-test.true c.loop-var.invariant.filled
     (c.if-not-assign.ensures.refuted refl))
 
@@ -32,6 +33,7 @@ pub returns : goal.returns
 returns c =
     let u = c.args.u.now in
     let old = assigned u c.args.slots.now.ids in
-    Forces-true (all-forced u c.args.n old c.args.vars.now c.args.id (assigned u c.loop-var.slots.ids)
+    Forces-true (all-forced u c.args.n old c.args.vars.now c.args.id (assigned u
+    c.loop-var.slots.ids)
     c.loop-var.var-index (omega arith) c.loop-var.invariant.filled)
     c.loop-var.invariant.known

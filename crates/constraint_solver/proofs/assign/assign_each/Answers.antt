@@ -28,13 +28,15 @@ pub returns-then-not-assign : goal.returns-then-not-assign
 returns-then-not-assign c =
     let u = c.args.u.now in
     let old = assigned u c.args.slots.now.ids in
-    Forces-false (each-refuted u c.args.n old c.args.vars.now c.args.kids.now (assigned u c.loop-i.slots.ids)
+    Forces-false (each-refuted u c.args.n old c.args.vars.now c.args.kids.now (assigned u
+    c.loop-i.slots.ids)
     c.loop-i.i c.loop-i-test.true c.loop-i.invariant.filled (c.if-not-assign.ensures.refuted refl))
 
 pub returns : goal.returns
 returns c =
     let u = c.args.u.now in
     let old = assigned u c.args.slots.now.ids in
-    Forces-true (each-forced u c.args.n old c.args.vars.now c.args.kids.now (assigned u c.loop-i.slots.ids)
+    Forces-true (each-forced u c.args.n old c.args.vars.now c.args.kids.now (assigned u
+    c.loop-i.slots.ids)
     c.loop-i.i c.requires.lengths (omega arith) c.loop-i.invariant.filled)
     c.loop-i.invariant.known

@@ -27,7 +27,8 @@ returns-clause-fronts g c =
     λ x e d o named same.
     let found = c.definition-def.ensures x e in
     let is : c.definition-def.result.now ≡ d = cc in
-    same-answer c.args.u.now says d o (operation_seen c.args.u.now c.args.operands.now x) c.judge.result same
+    same-answer c.args.u.now says d o (operation_seen c.args.u.now c.args.operands.now x)
+    c.judge.result same
     (subst (λ k. IsTrue c.judge.result
     ↔ MeetsDefinition c.args.u.now says k (operation_seen c.args.u.now c.args.operands.now x)) is
     (c.judge.ensures x e))

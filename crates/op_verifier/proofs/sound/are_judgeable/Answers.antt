@@ -11,7 +11,8 @@ returns-then-not-is_judgeable c =
     let within : c.loop-i.i < length (ops_in c.args.store.now) = omega arith in
     let x = an-element (ops_in c.args.store.now) c.loop-i.i within in (
       λ yes. absurd (true≢false (sym yes)),
-      λ all. absurd (all-fails (IsJudgeable c.args.count c.args.len c.args.store.now) (ops_in c.args.store.now) c.loop-i.i x.0 x.1
+      λ all. absurd (all-fails (IsJudgeable c.args.count c.args.len c.args.store.now)
+          (ops_in c.args.store.now) c.loop-i.i x.0 x.1
           (λ is. true≢false (sym ((c.if-not-is_judgeable.ensures x.0 x.1).1 is))) all),
     )
 
@@ -19,5 +20,6 @@ pub loop-i-preserved : goal.loop-i-preserved
 loop-i-preserved c =
     let within : c.loop-i.i < length (ops_in c.args.store.now) = omega arith in
     let x = an-element (ops_in c.args.store.now) c.loop-i.i within in
-    all-step (IsJudgeable c.args.count c.args.len c.args.store.now) (ops_in c.args.store.now) c.loop-i.i x.0 x.1
+    all-step (IsJudgeable c.args.count c.args.len c.args.store.now)
+    (ops_in c.args.store.now) c.loop-i.i x.0 x.1
     ((c.if-not-is_judgeable.ensures x.0 x.1).0 refl) c.loop-i.invariant

@@ -12,7 +12,8 @@ returns-then-not-has_attrs_at c =
     let within : c.loop-i.i < length (ops_in c.args.store.now) = omega arith in
     let x = an-element (ops_in c.args.store.now) c.loop-i.i within in (
       λ yes. absurd (true≢false (sym yes)),
-      λ all. absurd (all-fails (λ (site : Site). AreKnown c.args.len site.head.values) (ops_in c.args.store.now) c.loop-i.i x.0 x.1
+      λ all. absurd (all-fails (λ (site : Site). AreKnown c.args.len site.head.values)
+          (ops_in c.args.store.now) c.loop-i.i x.0 x.1
           (λ is. true≢false (sym ((c.if-not-has_attrs_at.ensures x.0 x.1).1 is))) all),
     )
 
@@ -20,5 +21,6 @@ pub loop-i-preserved : goal.loop-i-preserved
 loop-i-preserved c =
     let within : c.loop-i.i < length (ops_in c.args.store.now) = omega arith in
     let x = an-element (ops_in c.args.store.now) c.loop-i.i within in
-    all-step (λ (site : Site). AreKnown c.args.len site.head.values) (ops_in c.args.store.now) c.loop-i.i x.0 x.1
+    all-step (λ (site : Site). AreKnown c.args.len site.head.values)
+    (ops_in c.args.store.now) c.loop-i.i x.0 x.1
     ((c.if-not-has_attrs_at.ensures x.0 x.1).0 refl) c.loop-i.invariant

@@ -22,7 +22,8 @@ returns-in-None c =
     items-with_items c.args.self.now.slots
     (slice_set c.deref_mut.result.now c.args.var.0 (Some c.args.id))
     (ap length same ∙ length-set s c.args.var.0 (Some c.args.id)) in
-    subst (λ new. Asked c.args.u.now s new true (λ a. Has a c.args.var (at c.args.u.now c.args.id.0)))
+    subst (λ new. Asked c.args.u.now s new true (λ a. Has a c.args.var (at c.args.u.now
+    c.args.id.0)))
     (sym (written ∙ same))
     (Asked-true (ask-first c.args.u.now s c.args.var c.args.id c.requires.known c.requires.id free
     c.requires.var))

@@ -18,7 +18,8 @@ pub returns-then-count-vars : goal.returns-then-count-vars
 returns-then-count-vars c =
     let here : slice_get c.args.blocks.now 0 ≡ Some c.in-Some.block.now =
     sym c.first.ensures.value ∙ ap option_copied c.in-Some.is in
-    λ n bs are. Asked-false (args-count c.args.u.now c.args.store.now c.args.vars.now c.in-Some.block.now bs
+    λ n bs are. Asked-false (args-count c.args.u.now c.args.store.now c.args.vars.now
+    c.in-Some.block.now bs
     c.args.self.now.slots.items c.args_of-first.result.1
     (first-block c.args.store.now n c.args.u.now c.args.blocks.now c.in-Some.block.now bs are here)
     (λ x e. (c.args_of-first.ensures.numbers x e).1) c.if-count-vars.true)

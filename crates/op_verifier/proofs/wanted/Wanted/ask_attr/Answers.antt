@@ -15,7 +15,8 @@ returns-in-Some c =
     let e =
     attr_at-attrs_seen c.args.u.now c.args.row.now.keys c.args.row.now.values
     c.args.entry.now.name
-    ∙ ap (λ key. value_of c.args.u.now (attr_at (zip c.args.row.now.keys c.args.row.now.values) key))
+    ∙ ap (λ key. value_of c.args.u.now (attr_at (zip c.args.row.now.keys c.args.row.now.values)
+    key))
     (sym c.bytes.ensures)
     ∙ ap (value_of c.args.u.now) (sym c.attribute.ensures ∙ c.in-Some.is) in
     attr-there c.args.u.now c.args.entry.now _ _ _ _ _ e c.ask.ensures
@@ -25,7 +26,8 @@ returns-in-None c =
     let e =
     attr_at-attrs_seen c.args.u.now c.args.row.now.keys c.args.row.now.values
     c.args.entry.now.name
-    ∙ ap (λ key. value_of c.args.u.now (attr_at (zip c.args.row.now.keys c.args.row.now.values) key))
+    ∙ ap (λ key. value_of c.args.u.now (attr_at (zip c.args.row.now.keys c.args.row.now.values)
+    key))
     (sym c.bytes.ensures)
     ∙ ap (value_of c.args.u.now) (sym c.attribute.ensures ∙ c.in-None.is) in
     attr-missing c.args.u.now c.args.entry.now _ _ e c.requires.slots

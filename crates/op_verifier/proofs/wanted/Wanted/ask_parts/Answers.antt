@@ -17,26 +17,30 @@ use Rattle.op_verifier.proofs.wanted.Wanted.ask_parts.Goals as goal
 pub ask_operands-requires-clause-known : goal.ask_operands-requires-clause-known
 ask_operands-requires-clause-known c =
     let x = an-element (ops_in c.args.store.now) c.args.op.0 c.requires.op in
-    subst (λ (h : StoredHead). AreKnown (length c.args.u.now) h.values) (c.op-row.ensures.head x.0 x.1)
+    subst (λ (h : StoredHead). AreKnown (length c.args.u.now) h.values) (c.op-row.ensures.head
+    x.0 x.1)
     (all-get _ (ops_in c.args.store.now) c.args.op.0 x.0 c.requires.ids.attrs x.1)
 
 pub ask_results-requires-clause-known : goal.ask_results-requires-clause-known
 ask_results-requires-clause-known c =
     let x = an-element (ops_in c.args.store.now) c.args.op.0 c.requires.op in
-    subst (λ (h : StoredHead). AreKnown (length c.args.u.now) h.values) (c.op-row.ensures.head x.0 x.1)
+    subst (λ (h : StoredHead). AreKnown (length c.args.u.now) h.values) (c.op-row.ensures.head
+    x.0 x.1)
     (all-get _ (ops_in c.args.store.now) c.args.op.0 x.0 c.requires.ids.attrs x.1)
 
 pub ask_results-requires-clause-types : goal.ask_results-requires-clause-types
 ask_results-requires-clause-types c =
     let x = an-element (ops_in c.args.store.now) c.args.op.0 c.requires.op in
-    subst (λ (h : StoredHead). AreKnown (length c.args.u.now) h.results) (c.op-row.ensures.head x.0 x.1)
+    subst (λ (h : StoredHead). AreKnown (length c.args.u.now) h.results) (c.op-row.ensures.head
+    x.0 x.1)
     (types-known _ c.args.store.now x.0.at.values x.0.head.results c.requires.ids.types
     (op-placed c.args.store.now c.args.op x.0 x.1).1)
 
 pub ask_attrs-requires-clause-known : goal.ask_attrs-requires-clause-known
 ask_attrs-requires-clause-known c =
     let x = an-element (ops_in c.args.store.now) c.args.op.0 c.requires.op in
-    subst (λ (h : StoredHead). AreKnown (length c.args.u.now) h.values) (c.op-row.ensures.head x.0 x.1)
+    subst (λ (h : StoredHead). AreKnown (length c.args.u.now) h.values) (c.op-row.ensures.head
+    x.0 x.1)
     (all-get _ (ops_in c.args.store.now) c.args.op.0 x.0 c.requires.ids.attrs x.1)
 
 pub returns-then-not-ask_operands : goal.returns-then-not-ask_operands

@@ -11,7 +11,8 @@ use Rattle.op_verifier.proofs.wanted.Wanted.ask_region.Goals as goal
 
 pub returns-then-not-has_size : goal.returns-then-not-has_size
 returns-then-not-has_size c =
-    λ x e. Asked-false (size-refuses c.args.u.now c.args.entry.now (blocks_seen c.args.u.now x.blocks)
+    λ x e. Asked-false (size-refuses c.args.u.now c.args.entry.now (blocks_seen c.args.u.now
+    x.blocks)
     c.args.self.now.slots.items
     (λ size.
     let count = blocks-count c.args.store.now (past_region x.at) c.args.u.now

@@ -8,7 +8,8 @@ use Rattle.op_verifier.proofs.wanted.Wanted.ask_regions.Goals as goal
 
 pub returns-then-regions-entries : goal.returns-then-regions-entries
 returns-then-regions-entries c =
-    λ x e. Asked-false (regions-count c.args.u.now c.args.store.now (past_op x.at x.head) c.args.entries.now
+    λ x e. Asked-false (regions-count c.args.u.now c.args.store.now (past_op x.at x.head)
+    c.args.entries.now
     c.regions_of-regions.result.now c.args.self.now.slots.items x.regions
     (c.regions_of-regions.ensures x e) c.if-regions-entries.true)
 
