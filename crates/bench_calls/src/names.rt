@@ -23,11 +23,7 @@ fn spell(name: &mut Vec<u8>, number: u32) -> Result<(), AllocError> {
 }
 
 /// Notes a definition with a use before it and one behind it, of a name that is defined outside.
-fn note_definition(
-    scopes: &mut Scopes,
-    name: &mut Vec<u8>,
-    number: u32,
-) -> Result<(), AllocError> {
+fn note_definition(scopes: &mut Scopes, name: &mut Vec<u8>, number: u32) -> Result<(), AllocError> {
     spell(name, number)?;
     scopes.mention(name.as_slice(), number, 0, number)?;
     scopes.define(name.as_slice(), number, 1)?;

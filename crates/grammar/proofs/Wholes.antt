@@ -14,12 +14,12 @@ use Rattle.ir_lexer.specs.Tokens.{Token}
 use Rattle.grammar.specs.declared.stop.SyntaxCode.{SyntaxCode}
 use Rattle.grammar.specs.declared.stop.SyntaxStop.{SyntaxStop}
 use Rattle.grammar.specs.declared.stop.SyntaxStop.TheVariants.{At, Failed, OutOfMemory}
-use Rattle.grammar.specs.Answers.{Told, Answered, Accepts, IsRefusal, ComeFrom, IsReadFrom}
+use Rattle.grammar.specs.Answers.{Told, Answered, Accepts, IsRefusal, ReadsFront, ComeFrom, IsReadFrom}
 use Rattle.grammar.specs.Exact.{HasMore, Blocked, IsExactAnswer}
 use Rattle.grammar.specs.Front.{Lists, Some_of, Front, Refused, AreSpelled, Shallow}
 use Rattle.grammar.specs.Grammar.{G, Tokens, Parser, Outcome, done, stop, and_then, read_tok}
 use Rattle.grammar.specs.Looks.{any_of, passes}
-use Rattle.grammar.specs.Ran.{Env, reads_in, GoneOver, HasRead, HasReadAll, HasStopped, WentToEnd, IsAtEnd, IsEnd, Reads, ReadsWhole, IsCodeOf, code_by_class, code_at}
+use Rattle.grammar.specs.Ran.{Env, reads_in, GoneOver, HasRead, HasReadAll, HasStopped, Went, WentToEnd, IsAtEnd, IsEnd, Reads, ReadsWhole, IsCodeOf, code_by_class, code_at}
 use Rattle.grammar.proofs.Codes.{code-of, code-once}
 use Rattle.grammar.proofs.Cut.{Split, same, longer, shorter, split}
 use Rattle.grammar.proofs.Fronts.{one-front, front-no-refusal}
@@ -199,6 +199,37 @@ module _ {A : Type 0} (R : Tokens → A → Type 0) (D : Lists) (p : Parser A)
         tree = subst (λ (w : Tokens). R w a) (sym whole) f.tree;
         shallow = subst (λ (w : Tokens). Shallow D w) (sym whole) f.shallow;
       }
+
+  -- what a call that read a piece answers, in the words of the grammar
+  pub front-answered : (s s' : Source) (r : Result A SyntaxStop) → Went p s r s'
+      → ReadsFront R D s r s'
+  front-answered s s' (Ok a) x = record {
+    front = x.front;
+    gone = x.gone;
+    is = λ rest. let ts = x.front ++ s'.now ∷ rest in
+        subst (IsExactAnswer R D ts) (x.reads rest) (exact ts);
+  }
+  front-answered s s' (Err (At place c)) x = record {
+    front = x.front;
+    gone = x.gone;
+    is = λ rest.
+        refusal-at (x.front ++ s'.now ∷ rest) x.front rest s'.now x.deep place c refl
+        x.gone.spelled (x.stops rest) x.place_is x.code_is;
+  }
+  front-answered s s' (Err Failed) x = tt
+  front-answered s s' (Err OutOfMemory) x = tt
+
+-- where the source tells its tokens, the front is one of them
+pub told-front : {A : Type 0} (R : Tokens → A → Type 0) (D : Lists) (s s' : Source)
+    (r : Result A SyntaxStop) → ReadsFront R D s r s' → Told s (λ ts. Answered R D ts r)
+told-front R D s s' (Ok a) x ts is =
+    let t = x.gone.told ts is in
+    (s'.now ∷ t.0, subst (λ (w : Tokens). Front R D w a (s'.now ∷ t.0)) (sym t.1) (x.is t.0))
+told-front R D s s' (Err (At place c)) x ts is =
+    let t = x.gone.told ts is in
+    subst (λ (w : Tokens). IsRefusal R D w place c) (sym t.1) (x.is t.0)
+told-front R D s s' (Err Failed) x ts is = tt
+told-front R D s s' (Err OutOfMemory) x ts is = tt
 
 module _ {A : Type 0} (R : Tokens → A → Type 0) (D : Lists)
     (seen : (p : Tokens) → D p → HasMore (Some_of R) p)

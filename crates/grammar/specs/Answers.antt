@@ -7,9 +7,11 @@
 --   IsRefusal R D ts p c  the tokens ts are refused at the place p, with the code c
 --   Answered R D ts r     the answer r is the tree of ts, or its refusal, or says nothing of ts
 --   Accepts R D ts r      where ts have a front, its tree is answered
+--   ReadsFront R D old r new
+--                         the call read the front of what comes, or was refused there
 --   ComeFrom s ts         the source s may have these tokens, told or not
 --   IsReadFrom R D s a    a is the tree of tokens that come from the source
-use Rattle.std.specs.Prelude.{◌≡◌, ◌⊎◌, ℕ, ◌∷◌, Some, Result, Ok, Err}
+use Rattle.std.specs.Prelude.{◌≡◌, ◌⊎◌, ℕ, ◌∷◌, ◌++◌, Some, Result, Ok, Err}
 use Rattle.ir_lexer.specs.Source.{Source, PlacesAscend}
 use Rattle.ir_lexer.specs.Tokens.{Token}
 use Rattle.grammar.specs.declared.stop.SyntaxCode.{SyntaxCode}
@@ -18,7 +20,7 @@ use Rattle.grammar.specs.declared.stop.SyntaxStop.{SyntaxStop}
 use Rattle.grammar.specs.declared.stop.SyntaxStop.TheVariants.{At, Failed, OutOfMemory}
 use Rattle.grammar.specs.Front.{Lists, AreSpelled, Shallow, Front, Refused, TooDeep}
 use Rattle.grammar.specs.Grammar.{Tokens}
-use Rattle.grammar.specs.Ran.{AreShort, IsCodeOf}
+use Rattle.grammar.specs.Ran.{AreShort, GoneOver, IsCodeOf}
 
 -- where the source tells its tokens, this holds of them, from the present one on
 abbrev pub Told : Source → (Tokens → Type 0) → Type 0
@@ -45,6 +47,30 @@ abbrev pub Accepts : {A : Type 0} → (Tokens → A → Type 0) → Lists → To
     → Type 0
 Accepts {A = A} R D ts result = (a : A) (rest : Tokens) → Front R D ts a rest
     → (result ≡ Ok a) ⊎ ((result ≡ Err Failed) ⊎ (result ≡ Err OutOfMemory))
+
+-- The source went over a front of what comes. Its tree is a, whatever comes behind the token at
+-- which the source stands now.
+pub record IsFrontRead {A : Type 0} (R : Tokens → A → Type 0) (D : Lists) (old : Source) (a : A)
+    (new : Source) : Type 0 where
+  pub front : Tokens
+  pub gone : GoneOver old front new
+  pub is : (rest : Tokens) → Front R D (front ++ new.now ∷ rest) a (new.now ∷ rest)
+
+-- The source went over tokens behind which the present one is refused, whatever comes behind it.
+pub record IsFrontRefused {A : Type 0} (R : Tokens → A → Type 0) (D : Lists) (old : Source)
+    (place : ℕ) (code : SyntaxCode) (new : Source) : Type 0 where
+  pub front : Tokens
+  pub gone : GoneOver old front new
+  pub is : (rest : Tokens) → IsRefusal R D (front ++ new.now ∷ rest) place code
+
+-- an answer that is Ok is the tree of the front of what comes, behind which the source stands; one
+-- with a place is the refusal of the token at which it stands
+abbrev pub ReadsFront : {A : Type 0} → (Tokens → A → Type 0) → Lists → Source
+    → Result A SyntaxStop → Source → Type 0
+ReadsFront R D old (Ok a) new = IsFrontRead R D old a new
+ReadsFront R D old (Err (At place code)) new = IsFrontRefused R D old place code new
+ReadsFront R D old (Err Failed) new = Unit {0}
+ReadsFront R D old (Err OutOfMemory) new = Unit {0}
 
 -- Tokens that a source may have, from its present one on: the texts spell their classes and are
 -- within its bound, and the places ascend. Where it tells its tokens, they are these.
