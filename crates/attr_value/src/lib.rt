@@ -1,8 +1,8 @@
 //! Values: types and attributes, as heads over other values.
 //!
 //! A value is a [`Head`] and a list of values, its kids; a table of values knows each by a
-//! [`ValueId`]. [`Text`] and [`List`] are collections on the heap that contracts see as plain
-//! lists, so a definition can compute them, and a type may hold itself through a [`List`].
+//! [`ValueId`]. Contracts see a [`Text`] and a [`List`] as plain lists, so a definition can compute
+//! them, and a type may hold itself through a [`List`].
 //! `specs/Values.antt` says what a value is, and `specs/Heads.antt` what its head keeps to.
 #![tactic(auto)]
 
