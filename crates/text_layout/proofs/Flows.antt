@@ -1,5 +1,5 @@
 -- Bytes that go in one after another.
-use Rattle.std.proofs.Common.{◌≡◌, ◌⊎◌, inl, inr, ℕ, ◌+◌, ◌-◌, ◌<◌, ◌≤◌, [], ◌++◌, length, take, min, sym, ◌∙◌, ap, subst, arith, append_assoc, length-append, Option, Some, None, Result, Ok, Err}
+use Rattle.std.proofs.Common.{◌≡◌, ◌⊎◌, inl, inr, ℕ, ◌+◌, ◌-◌, ◌<◌, ◌≤◌, [], ◌++◌, length, take, min, sym, ◌∙◌, ap, subst, arith, append_assoc, length-append, Option, Result, Ok, Err}
 use Rattle.std.proofs.Math.Seq.{take-append-add}
 use Rattle.std.proofs.lemmas.List.{append-nil, length-take, take-take, take-append-le, take_all}
 use Rattle.std.specs.Io.KnownBytes.{Appends}
@@ -9,7 +9,7 @@ use Rattle.ir_lexer.specs.Spelling.{Text}
 use Rattle.text_layout.specs.declared.error.PrintError.{PrintError}
 use Rattle.text_layout.specs.declared.error.PrintError.TheVariants.{WriteFault, OutputLimit, OutOfMemory}
 use Rattle.text_layout.specs.Flow.{Flow, Adds, PrintHasCause, Drains}
-use Rattle.text_layout.proofs.Appending.{appends-then, appends-nothing, fronts-then, front-behind}
+use Rattle.text_layout.proofs.Appending.{appends-then, appends-nothing, front-behind}
 
 -- ---- what sinks are told
 

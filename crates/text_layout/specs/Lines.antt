@@ -157,8 +157,8 @@ first_of asked None class = class
 first_of gap.Newline (Some row) class = class
 first_of _ (Some row) class = row.first
 
--- Where the line stands behind a mark. A break sets the indent of a new line, and each token and each break
--- drops what was asked of the gap.
+-- Where the line stands behind a mark. A break sets the indent of a new line, and a token and a
+-- break drop what was asked of the gap.
 abbrev pub line_after : Line → Mark → Line
 line_after line (token class text) = record {
   indent = line.indent;

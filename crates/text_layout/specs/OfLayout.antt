@@ -1,7 +1,7 @@
 -- What a contract sees of a layout: the sink that it writes to, and the moment.
 --
 --   sink_of l                 the sink, as a reference
---   moment written faults l   the layout and its sink, by what the sink tells of its bytes and faults
+--   moment written faults l   the layout and its sink, by what the sink tells
 use Rattle.std.specs.Prelude.{ℕ, Option}
 use Rattle.std.specs.Borrow.{MutBor}
 use Rattle.ir_lexer.specs.Spelling.{Text}
