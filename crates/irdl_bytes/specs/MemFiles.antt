@@ -1,11 +1,13 @@
 -- Files in memory, and what their calls do.
 --
 --   FilesState               what contracts see of them
+--   is_named name file       the file has this name
 --   map_of files             the bytes of each name
 --   rest_of files file       what is left of the open file
 --   open_fails s name        a call of `open` with this name fails
 --   after_open s name        the files after that call
 --   read_fails s             a call of `read` fails
+--   further count file       the open file, so many bytes further
 --   after_read s count       the files after a call of `read` that gives so many bytes
 use Rattle.std.specs.Prelude.{
   ℕ,

@@ -1,7 +1,7 @@
 -- The open file of files in memory as the code keeps it: its index among them and its place.
 --
 --   name_at files at      the name of the file at an index
---   IsFirstNamed files at      the file there is the first of its name
+--   IsFirstNamed files at the file there is the first of its name
 --   SameFirst old new at  a file that is the first of its name in both of two lists
 --   opened files cursor   the open file of a cursor, if there is one
 --   moved_by count        a cursor that many bytes further

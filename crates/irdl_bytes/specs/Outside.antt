@@ -7,6 +7,7 @@
 --
 --   FileMap                          the bytes of each name that has a file
 --   OpenFile                         the name of the open file, and the place read to
+--   greatest_count                   the greatest count, which is kept in 64 bits
 --   next_count n                     the count after one more, which stops at the greatest
 --   Rose before now                  a count went up, or stands at the greatest
 --   FaultsByItself steady before now the files aren't steady, and their count rose

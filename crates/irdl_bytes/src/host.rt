@@ -85,7 +85,8 @@ impl Files for HostFiles {
         Err(Failed)
     }
 
-    /// As the trait's. Where no file is open, no bytes are read. A call that succeeds counts no fault.
+    /// As the trait's. Where no file is open, no bytes are read. A call that succeeds counts no
+    /// fault.
     fn read(&mut self, into: &mut [u8]) -> Result<usize, Failed>
         requires { 0 < length into.old }
         ensures no_fault { OnOk result (self.new.faults ≡ self.old.faults) }
