@@ -20,6 +20,7 @@ bound (Some d) = suc d
 abbrev pub from : List Binding → ℕ → ℕ → Name → Option FoundBinding
 from ds k r x = first_from k (drop k ds) r x
 
+-- the first from k on is the definition at k, where it is of the name and in the region
 pub from-here : (ds : List Binding) (k r : ℕ) (x : Name) (s : Binding) → slice_get ds k ≡ Some s
     → from ds k r x ≡ (if is_of r x s then Some (found_at k s) else from ds (suc k) r x)
 from-here ds k r x s e = ap (λ l. first_from k l r x) (drop-here ds k s e)
@@ -72,6 +73,7 @@ pub record IsOwn (ds : List Binding) (r k d : ℕ) : Type 0 where
   pub there : slice_get ds d ≡ Some binding
   pub region : binding.region ≡ r
 
+-- the last definition of a region below k is one of the region, and stands below k
 pub last-is : (ds : List Binding) (r k d : ℕ) → last_own ds r k ≡ Some d → IsOwn ds r k d
 last-is ds r zero d e = absurd (cc)
 last-is ds r (suc k) d e =
@@ -108,6 +110,7 @@ last-is ds r (suc k) d e =
           region = rest.region;
         }
 
+-- a number is itself
 pub itself : (n : ℕ) → (n == n) ≡ true
 itself n = grind (arith, nat_tests)
 
@@ -195,6 +198,7 @@ get-dropped [] (suc k) n m e = refl
 get-dropped (d ∷ ds) (suc k) n zero e = absurd (omega arith)
 get-dropped (d ∷ ds) (suc k) n (suc m) e = get-dropped ds k n m (omega arith)
 
+-- what is found from k on is a definition of the name in the region, at k or behind
 pub found-is : (ds : List Binding) (k r : ℕ) (x : Name) (f : FoundBinding) → from ds k r x ≡ Some f
     → IsFound ds k r x f
 found-is ds k r x f e =

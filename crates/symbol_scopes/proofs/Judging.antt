@@ -9,7 +9,7 @@ use Rattle.symbol_scopes.specs.declared.call.NameKind.{NameKind}
 use Rattle.symbol_scopes.specs.declared.slots.NameSlot.{NameSlot}
 use Rattle.symbol_scopes.specs.declared.call.Call.{Call}
 use Rattle.symbol_scopes.specs.declared.call.Call.TheVariants.{Define}
-use Rattle.symbol_scopes.specs.declared.listed.Listed.{Listed}
+use Rattle.symbol_scopes.specs.declared.rows.Listed.{Listed}
 use Rattle.first_fault.specs.Firsts.{IsFirst, IsFaultBy}
 use Rattle.symbol_scopes.specs.Faults.{value_fault, fault_if}
 use Rattle.first_fault.specs.Firsts.{earlier_of}
@@ -27,6 +27,7 @@ use Rattle.symbol_scopes.proofs.Listing.{listed-same}
 use Rattle.symbol_scopes.proofs.Walks.{Further, further-along}
 use Rattle.symbol_scopes.proofs.Finds.{found-is, meant-below, itself, least-tells}
 
+-- what is said of marks and further marks is what is said of each
 pub along-append : {A : Type 0} (f : List ℕ → ScopeMark → List A) (s : Standing) (xs ys : List ScopeMark)
     → along f s (xs ++ ys) ≡ along f s xs ++ along f (after s xs) ys
 along-append f s [] ys = refl
@@ -34,6 +35,7 @@ along-append f s (x ∷ xs) ys =
     ap (λ l. f s.round x ++ l) (along-append f (passed s x) xs ys)
     ∙ sym (append_assoc (f s.round x) (along f (passed s x) xs) (along f (after (passed s x) xs) ys))
 
+-- the standing behind marks and further marks
 pub after-append : (s : Standing) (xs ys : List ScopeMark) → after s (xs ++ ys) ≡ after (after s xs) ys
 after-append s [] ys = refl
 after-append s (x ∷ xs) ys = after-append (passed s x) xs ys
@@ -82,12 +84,15 @@ pub record Going (ns : List Name) (ms : List ScopeMark) (k : NameKind) (l : List
 
 module _ (ns : List Name) (ms : List ScopeMark) (k : NameKind) (l : Listed)
     (h : IsListed ns (bindings k ms) ((standing ms).entered + 1) l) where
+  -- the table is that of its own definitions
   pub own-listed : IsListed ns (bindings_in ns l) (length l.heads.items) l
   own-listed = listed-same ns _ _ _ _ l (sym h.bindings) (sym h.count) h
 
+  -- the top level has a head in the table
   pub some-region : 0 < length l.heads.items
   some-region = let c = h.count in omega arith
 
+  -- a region that a mark enters has a head in the table
   pub regions-there : (w : Walk) (before i : ℕ) (m : ScopeMark) → Going ns ms k l w before i
       → Further ms i m → (passed w.round m).entered < length l.heads.items
   regions-there w before i m g x =
@@ -98,6 +103,7 @@ module _ (ns : List Name) (ms : List ScopeMark) (k : NameKind) (l : Listed)
       let c = h.count in
       omega arith
 
+  -- as many definitions stand before as the table has, at most
   pub most : (w : Walk) (before i : ℕ) → Going ns ms k l w before i
       → before ≤ length (bindings_in ns l)
   most w before i g =
@@ -106,10 +112,12 @@ module _ (ns : List Name) (ms : List ScopeMark) (k : NameKind) (l : Listed)
       let c = ap length h.bindings in
       omega arith
 
+  -- a walk begins before the first mark
   pub going-start : (w : Walk) → w.round ≡ top → AreSlots ns (bindings_in ns l) w.round.round w.slots
       → Going ns ms k l w 0 0
   going-start w round slots = record { round = round; slots = slots; before-is = refl }
 
+  -- a walk goes on by one mark
   pub going-step : (w new : Walk) (before i more : ℕ) (m : ScopeMark) → Going ns ms k l w before i
       → Further ms i m → new.round ≡ passed w.round m
       → AreSlots ns (bindings_in ns l) new.round.round new.slots
@@ -202,8 +210,10 @@ define-fault ns ds round before next name place count slot e is most =
     ∙ ap (λ b. fault_if b place 8) (sym (least-tells ds round (numbered_name ns name) before most))
     ∙ ap (λ (l : NameSlot). fault_if (nat_lt l.least before) place 8) (sym is)
 
+-- the test of what is less
 pub less-is : (a b : ℕ) → a < b → nat_lt a b ≡ true
 less-is a b h = grind (arith, nat_tests)
 
+-- the test of what is not less
 pub less-not : (a b : ℕ) → b ≤ a → nat_lt a b ≡ false
 less-not a b h = grind (arith, nat_tests)

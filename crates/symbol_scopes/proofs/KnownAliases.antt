@@ -47,6 +47,7 @@ module _ (ns : List Name) (before : List ScopeMark) where
         (λ x. same before m false x (none false x));
   }
 
+  -- a call that defines no alias leaves the aliases that are known
   pub knows-other : (k : AliasSet) (next : Call)
       → ((t : Bool) (n p : ℕ) → next ≡ s.DefineAlias t n p → ⊥)
       → KnowsAliases ns before k → KnowsAliases ns (before ++ mark_of ns next ∷ []) k
@@ -86,6 +87,7 @@ module _ (ns : List Name) (before : List ScopeMark) where
       choice false true = refl
       choice false false = refl
 
+  -- a call that defines an alias of types makes it known
   pub knows-type : (old new : AliasSet) (next : Call) (t : Bool) (n p : ℕ) → AreDistinctNames ns → n < length ns
       → next ≡ s.DefineAlias t n p → t ≡ true → KnowsAliases ns before old
       → new.types.items ≡ set old.types.items n true → new.attributes ≡ old.attributes
@@ -98,6 +100,7 @@ module _ (ns : List Name) (before : List ScopeMark) where
             ∙ across (mark_of ns (s.DefineAlias true n p)) false (λ x. refl);
       })
 
+  -- a call that defines an alias of attributes makes it known
   pub knows-attribute : (old new : AliasSet) (next : Call) (t : Bool) (n p : ℕ) → AreDistinctNames ns → n < length ns
       → next ≡ s.DefineAlias t n p → t ≡ false → KnowsAliases ns before old
       → new.attributes.items ≡ set old.attributes.items n true → new.types ≡ old.types

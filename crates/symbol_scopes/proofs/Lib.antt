@@ -8,3 +8,4 @@ pub mod KnownAliases
 pub mod Noting
 pub mod Finishing
 pub mod Regions
+pub mod Unlabelled

@@ -6,8 +6,8 @@ use Rattle.std.proofs.lemmas.List.{map-append, length-set, length-map, reverse-a
 use Rattle.std.proofs.lemmas.Option.{slice_get_within, get_or_from_slice_get}
 use Rattle.std.specs.declared.option.Option.{Option}
 use Rattle.std.specs.declared.option.Option.TheVariants.{Some, None}
-use Rattle.symbol_scopes.specs.declared.listed.BindingRow.{BindingRow}
-use Rattle.symbol_scopes.specs.declared.listed.Listed.{Listed}
+use Rattle.symbol_scopes.specs.declared.rows.BindingRow.{BindingRow}
+use Rattle.symbol_scopes.specs.declared.rows.Listed.{Listed}
 use Rattle.symbol_scopes.specs.ScopeMarks.{Name, Binding, ScopeMark, own, bindings_of, enters}
 use Rattle.symbol_scopes.specs.declared.call.NameKind.{NameKind}
 use Rattle.symbol_scopes.specs.declared.call.NameKind.TheVariants.{Values, Labels}
@@ -53,6 +53,7 @@ regions-known ns ds n l h d s e =
     let same : row.0.region ≡ s.region = ap (λ x. x.region) row.2 in
     omega arith
 
+-- the table with one region more, which has no definition yet
 pub listed-enter : (ns : List Name) (ds : List Binding) (n : ℕ) (old new : Listed)
     → IsListed ns ds n old → new.rows ≡ old.rows → new.heads.items ≡ old.heads.items ++ None ∷ []
     → IsListed ns ds (n + 1) new
@@ -76,6 +77,7 @@ listed-enter ns ds n old new h rows heads = record {
   known = λ d row e. let k = h.known d row (ap (λ r. slice_get r.items d) (sym rows) ∙ e) in omega arith;
 }
 
+-- the table with one definition more, the last one of its region
 pub listed-add : (ns : List Name) (ds : List Binding) (n region name number : ℕ) (old : Listed)
     (next : Option ℕ) (at : ℕ) (new : Listed)
     → IsListed ns ds n old → name < length ns → region < length old.heads.items
@@ -180,6 +182,7 @@ round-left all xs (Some x) n cut more h =
     let less = there.0 in
     (omega arith, descend-more (reverse xs) x n (omega arith) there.1)
 
+-- the table of equal definitions and as many regions
 pub listed-same : (ns : List Name) (a b : List Binding) (m n : ℕ) (l : Listed) → a ≡ b → m ≡ n
     → IsListed ns a m l → IsListed ns b n l
 listed-same ns a b m n l e f h =
@@ -190,10 +193,12 @@ pub none-more : (k : NameKind) (round : List ℕ) (m : ScopeMark) (ds : List Bin
     → ds ≡ ds ++ bindings_of k round m
 none-more k round m ds e = sym (ap (λ l. ds ++ l) e ∙ append-nil ds)
 
+-- a region that begins defines no name
 pub enters-none : (k : NameKind) (round : List ℕ) → bindings_of k round enters ≡ []
 enters-none Values round = refl
 enters-none Labels round = refl
 
+-- the definition of a value name, as a row and as a mark
 pub binding-value : (ns : List Name) (k : NameKind) (round : List ℕ) (next : Call) (region name place count : ℕ)
     → next ≡ Define name place count → k ≡ Values → region ≡ own round
     → (record { name = numbered_name ns name; region = region; number = count }) ∷ []
@@ -203,6 +208,7 @@ binding-value ns k round next region name place count e f g =
     ∙ sym (ap (λ x. bindings_of k round (mark_of ns x)) e
     ∙ ap (λ x. bindings_of x round (mark_of ns (Define name place count))) f)
 
+-- the definition of a label, as a row and as a mark
 pub binding-label : (ns : List Name) (k : NameKind) (round : List ℕ) (next : Call) (region name place block : ℕ)
     → next ≡ Label name place block → k ≡ Labels → region ≡ own round
     → (record { name = numbered_name ns name; region = region; number = block }) ∷ []

@@ -13,12 +13,14 @@ use Rattle.symbol_scopes.specs.ScopeMarks.{Name}
 use Rattle.symbol_scopes.specs.Slots.{AreDistinctNames}
 
 module _ {A : Type 0} where
+  -- what stands in a list stands there with more behind it
   pub get-front : (xs ys : List A) (i : ℕ) (x : A) → slice_get xs i ≡ Some x
       → slice_get (xs ++ ys) i ≡ Some x
   get-front [] ys i x e = absurd (cc)
   get-front (y ∷ xs) ys zero x e = e
   get-front (y ∷ xs) ys (suc i) x e = get-front xs ys i x e
 
+  -- what is pushed stands at the old length
   pub get-seam : (xs : List A) (y : A) → slice_get (xs ++ y ∷ []) (length xs) ≡ Some y
   get-seam [] y = refl
   get-seam (x ∷ xs) y = get-seam xs y
@@ -34,18 +36,21 @@ module _ {A : Type 0} where
     | inr h ↦ inr (ap suc h.0, h.1)
   ]
 
+  -- a place below the length reads the front alone
   pub get-before : (xs ys : List A) (i : ℕ) → i < length xs
       → slice_get (xs ++ ys) i ≡ slice_get xs i
   get-before [] ys i less = absurd (omega arith)
   get-before (x ∷ xs) ys zero less = refl
   get-before (x ∷ xs) ys (suc i) less = get-before xs ys i (omega arith)
 
+  -- a write is read again
   pub get-written : (xs : List A) (i : ℕ) (y : A) → i < length xs
       → slice_get (set xs i y) i ≡ Some y
   get-written [] i y less = absurd (omega arith)
   get-written (x ∷ xs) zero y less = refl
   get-written (x ∷ xs) (suc i) y less = get-written xs i y (omega arith)
 
+  -- a write changes no other place
   pub get-unwritten : (xs : List A) (i j : ℕ) (y : A) → (i ≡ j → ⊥)
       → slice_get (set xs i y) j ≡ slice_get xs j
   get-unwritten [] i j y differ = refl
@@ -62,14 +67,17 @@ module _ {A : Type 0} where
   drop-here (y ∷ xs) zero x e = let h : y ≡ x = cc in ap (λ z. z ∷ xs) h
   drop-here (y ∷ xs) (suc i) x e = drop-here xs i x e
 
+  -- what stands behind a front is read at its length
   pub get-middle : (xs ys : List A) (x : A) → slice_get (xs ++ x ∷ ys) (length xs) ≡ Some x
   get-middle [] ys x = refl
   get-middle (z ∷ xs) ys x = get-middle xs ys x
 
+  -- a front is what is taken up to its length
   pub take-front : (xs ys : List A) → take (length xs) (xs ++ ys) ≡ xs
   take-front [] ys = refl
   take-front (x ∷ xs) ys = ap (λ l. x ∷ l) (take-front xs ys)
 
+  -- past the end nothing is left
   pub drop-past : (xs : List A) (i : ℕ) → slice_get xs i ≡ None → drop i xs ≡ []
   drop-past [] zero e = refl
   drop-past [] (suc i) e = refl
@@ -78,12 +86,15 @@ module _ {A : Type 0} where
 
 -- ---- names, each once
 
+-- names that the test finds equal are equal
 pub same-name : (a b : Name) → bytes_eq a b ≡ true → a ≡ b
 same-name a b = (bytes_eq-Decides a b).0
 
+-- the test finds a name equal to itself
 pub name-itself : (a : Name) → bytes_eq a a ≡ true
 name-itself a = (bytes_eq-Decides a a).1 refl
 
+-- the test of unequal names goes both ways
 pub flipped : (a b : Name) → bytes_eq a b ≡ false → bytes_eq b a ≡ false
 flipped a b e = by (bytes_eq b a) refl
   where
@@ -134,16 +145,19 @@ pub map-same : {C : Type 0} (f g : Name → C) (ns : List Name) → ((x : Name) 
     → map f ns ≡ map g ns
 map-same f g ns e = λ i. map (λ x. e x i) ns
 
+-- one thing for each name is that thing as often as there are names
 pub map-one : {C : Type 0} (c : C) (ns : List Name) → replicate (length ns) c ≡ map (λ x. c) ns
 map-one c [] = refl
 map-one c (x ∷ ns) = ap (λ l. c ∷ l) (map-one c ns)
 
+-- what stands at a place of a mapped list
 pub get-map : {A C : Type 0} (f : A → C) (ns : List A) (n : ℕ) (name : A)
     → slice_get ns n ≡ Some name → slice_get (map f ns) n ≡ Some (f name)
 get-map f [] n name e = absurd (cc)
 get-map f (x ∷ ns) zero name e = let h : x ≡ name = cc in ap (λ z. Some (f z)) h
 get-map f (x ∷ ns) (suc n) name e = get-map f ns n name e
 
+-- what a mapped list has at a place comes of what stands there
 pub get-unmap : {A C : Type 0} (f : A → C) (ns : List A) (n : ℕ) (y : C)
     → slice_get (map f ns) n ≡ Some y → (x : A) × (slice_get ns n ≡ Some x) × (f x ≡ y)
 get-unmap f [] n y e = absurd (cc)
@@ -152,6 +166,7 @@ get-unmap f (x ∷ ns) (suc n) y e = get-unmap f ns n y e
 
 -- ---- what an index says of its name
 
+-- the place that a search finds has something that passes
 pub position-there : {A : Type 0} (p : A → Bool) (xs : List A) (n : ℕ) → Some n ≡ position p xs
     → (x : A) × (slice_get xs n ≡ Some x) × (p x ≡ true)
 position-there p [] n e = absurd (cc)

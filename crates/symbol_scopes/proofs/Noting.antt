@@ -44,6 +44,7 @@ kept-named m n (s.BadPack p) le h = tt
 kept-named m n (s.DefineAlias t a p) le h = omega arith
 kept-named m n (s.MentionAlias t a p) le h = omega arith
 
+-- calls stand for the same marks where names are added
 pub kept-marks : (ns more : List Name) (calls : List Call) → AreNamed (length ns) calls
     → marks_of (ns ++ more) calls ≡ marks_of ns calls
 kept-marks ns more [] h = refl
@@ -52,6 +53,7 @@ kept-marks ns more (x ∷ calls) h =
     let rest = kept-marks ns more calls h.1 in
     λ i. first i ∷ rest i
 
+-- the names of calls are among more names, too
 pub named-more : (m n : ℕ) (calls : List Call) → m ≤ n → AreNamed m calls → AreNamed n calls
 named-more m n [] le h = tt
 named-more m n (x ∷ calls) le h = (kept-named m n x le h.0, named-more m n calls le h.1)
@@ -74,11 +76,13 @@ grown-marks old new name calls (inr e) h =
           (named-more (length old) (length (old ++ name ∷ [])) calls (omega arith) h),
     )
 
+-- one mark more defines as many value names more as it is definitions
 pub bindings-more : (ms : List ScopeMark) (m : ScopeMark)
     → length (bindings Values (ms ++ m ∷ [])) ≡ length (bindings Values ms) + length (bindings_of Values (standing ms).round m)
 bindings-more ms m = ap length (along-more (bindings_of Values) top ms m)
     ∙ length-append (bindings Values ms) (bindings_of Values (standing ms).round m)
 
+-- one mark more is as many uses more
 pub uses-more : (ms : List ScopeMark) (m : ScopeMark)
     → length (uses_in (ms ++ m ∷ [])) ≡ length (uses_in ms) + length (use_of m)
 uses-more ms m =
@@ -87,6 +91,7 @@ uses-more ms m =
     let sum = length-append (uses_in ms) (use_of m ++ []) in
     omega arith
 
+-- one mark more is as many successors more
 pub successors-more : (ms : List ScopeMark) (m : ScopeMark)
     → length (successors_in (ms ++ m ∷ [])) ≡ length (successors_in ms) + length (successor_of m)
 successors-more ms m =
@@ -100,6 +105,7 @@ pub record Noted (ns : List Name) (calls : List Call) (x : Call) (ms : List Scop
   pub marks : marks_of ns (calls ++ x ∷ []) ≡ ms ++ mark_of ns x ∷ []
   pub named : AreNamed (length ns) (calls ++ x ∷ [])
 
+-- one call more stands for one mark more
 pub noted : (old new : List Name) (name : Name) (calls : List Call) (x : Call)
     → ((new ≡ old) ⊎ (new ≡ old ++ name ∷ [])) → AreNamed (length old) calls → IsNamed (length new) x
     → Noted new calls x (marks_of old calls)
@@ -130,6 +136,7 @@ bindings-few s (m ∷ ms) =
     single round (mark.defines_alias a) = omega arith
     single round (mark.mentions_alias a) = omega arith
 
+-- there are no more uses than marks
 pub uses-few : (ms : List ScopeMark) → length (uses_in ms) ≤ length ms
 uses-few [] = omega arith
 uses-few (m ∷ ms) =
@@ -149,6 +156,7 @@ uses-few (m ∷ ms) =
     single (mark.defines_alias a) = omega arith
     single (mark.mentions_alias a) = omega arith
 
+-- there are no more successors than marks
 pub successors-few : (ms : List ScopeMark) → length (successors_in ms) ≤ length ms
 successors-few [] = omega arith
 successors-few (m ∷ ms) =
@@ -194,6 +202,7 @@ module _ (old new : List Name) (name : Name) (calls : List Call) (d u t : ℕ)
   pub same-marks : after ≡ calls → marks_of new after ≡ marks_of old calls
   same-marks e = ap (marks_of new) e ∙ (grown-marks old new name calls grown h.0).0
 
+  -- what is kept stays, where nothing was noted
   pub same-kept : after ≡ calls → Kept new after d u t
   same-kept e =
       kept-by new after (marks_of old calls) d u t (same-marks e)
@@ -206,6 +215,7 @@ module _ (old new : List Name) (name : Name) (calls : List Call) (d u t : ℕ)
   more-marks x e here =
       ap (marks_of new) e ∙ (noted old new name calls x grown h.0 here).marks
 
+  -- what is kept, once one call more was noted
   pub more-kept : (x : Call) (d2 u2 t2 : ℕ) → after ≡ calls ++ x ∷ [] → IsNamed (length new) x
       → ((r : List ℕ) → d2 ≡ d + length (bindings_of Values r (mark_of new x)))
       → u2 ≡ u + length (use_of (mark_of new x)) → t2 ≡ t + length (successor_of (mark_of new x))
@@ -238,6 +248,7 @@ counts-small ns calls d u t h =
     let k = h.3 in
     (omega arith, omega arith, omega arith)
 
+-- what holds always holds of an error
 pub on-err : {T E : Type 0} (r : Result T E) (P : Type 0) → P → OnErr r P
 on-err (Ok x) P p = tt
 on-err (Err e) P p = p

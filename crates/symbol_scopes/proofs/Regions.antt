@@ -473,6 +473,7 @@ meant-looked ds (r ∷ round) (s ∷ ss) x a = by (first_in ds r x) (a.0 x) (mea
     by None e rest = rest ∙ ap (λ o. or_else o (looked ss x)) e
     by (Some h) e rest = ap (λ o. or_else o (looked ss x)) e
 
+-- uses mean the same by marks and by regions
 pub values-by-regions : (ns : Notes) → value_meanings (marks ns) ≡ told_in Values value_meant ns
 values-by-regions ns =
     along-judged Values (value_meaning (bindings Values (marks ns))) top 0 (marks ns)
@@ -496,6 +497,7 @@ values-by-regions ns =
     same q round s ss n (say.defines_alias b) a = refl
     same q round s ss n (say.mentions_alias b) a = refl
 
+-- successors mean the same by marks and by regions
 pub blocks-by-regions : (ns : Notes) → block_meanings (marks ns) ≡ told_in Labels block_meant ns
 blocks-by-regions ns =
     along-judged Labels (block_meaning (bindings Labels (marks ns))) top 0 (marks ns)
@@ -683,6 +685,7 @@ blocks-wrong ns =
     same q round s ss n (say.defines_alias b) a = refl
     same q round s ss n (say.mentions_alias b) a = refl
 
+-- the faults are the same by marks and by regions
 pub faults-by-regions : (ns : Notes) (f : Fault) → (IsNameFault (marks ns) f → IsWrong ns f) × (IsWrong ns f → IsNameFault (marks ns) f)
 faults-by-regions ns f = (to, back)
   where

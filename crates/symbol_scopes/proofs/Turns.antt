@@ -11,8 +11,8 @@ use Rattle.std.specs.declared.option.Option.TheVariants.{Some, None}
 use Rattle.symbol_scopes.specs.declared.slots.FoundBinding.{FoundBinding}
 use Rattle.symbol_scopes.specs.declared.slots.NameSlot.{NameSlot}
 use Rattle.symbol_scopes.specs.declared.slots.NameSlots.{NameSlots}
-use Rattle.symbol_scopes.specs.declared.listed.BindingRow.{BindingRow}
-use Rattle.symbol_scopes.specs.declared.listed.Listed.{Listed}
+use Rattle.symbol_scopes.specs.declared.rows.BindingRow.{BindingRow}
+use Rattle.symbol_scopes.specs.declared.rows.Listed.{Listed}
 use Rattle.symbol_scopes.specs.ScopeMarks.{Name, Binding, own, behind_own}
 use Rattle.symbol_scopes.specs.Calls.{numbered_name}
 use Rattle.symbol_scopes.specs.Meanings.{is_of, found_at, first_in, meant, or_else}
@@ -26,6 +26,7 @@ abbrev pub IsNext : List Binding → ℕ → Option ℕ → Type 0
 IsNext ds r None = Unit {0}
 IsNext ds r (Some d) = IsOwn ds r (length ds) d
 
+-- the definition that comes next is in the region
 pub next-is : (ds : List Binding) (r k : ℕ) → k ≤ length ds → IsNext ds r (last_own ds r k)
 next-is ds r k most = by (last_own ds r k) refl
   where
@@ -72,6 +73,7 @@ unseen ds rest r b x e =
     ∙ min-right (length ds) (least_of ds rest x) (least-most ds rest x))
 
 module _ (ns : List Name) (ds : List Binding) (r : ℕ) (rest : List ℕ) where
+  -- a region begins with none of its definitions visited
   pub begins-start : (t : NameSlots) → AreSlots ns ds rest t
       → Begins ns ds r rest (last_own ds r (length ds)) t
   begins-start t h = record {
@@ -92,6 +94,7 @@ module _ (ns : List Name) (ds : List Binding) (r : ℕ) (rest : List ℕ) where
       within (x ∷ ds) zero s e = omega arith
       within (x ∷ ds) (suc k) s e = let h = within ds k s e in omega arith
 
+  -- with all definitions visited the region is open
   pub begins-end : (t : NameSlots) → Begins ns ds r rest None t → AreSlots ns ds (r ∷ rest) t
   begins-end t h = record { slots = h.slots; room = h.room; saved = saved }
     where
@@ -284,6 +287,7 @@ module _ (ns : List Name) (ds : List Binding) (r : ℕ) (rest : List ℕ) where
   left None x = slot_of ds (r ∷ rest) x
   left (Some f) x = slot_of ds rest x
 
+  -- a region that ends: its definitions from `at` down are still to be put back
   pub record Ends (at : Option ℕ) (t : NameSlots) : Type 0 where
     pub slots : t.slots.items ≡ map (λ x. left (from ds (bound at) r x) x) ns
     pub room : length t.saved.items ≡ length ds
@@ -292,6 +296,7 @@ module _ (ns : List Name) (ds : List Binding) (r : ℕ) (rest : List ℕ) where
         → slice_get t.saved.items d ≡ Some (slot_of ds more s.name)
     pub next : IsNext ds r at
 
+  -- a region ends with none of its definitions visited
   pub ends-start : (t : NameSlots) → AreSlots ns ds (r ∷ rest) t → Ends (last_own ds r (length ds)) t
   ends-start t h = record {
     slots = h.slots ∙ map-same (slot_of ds (r ∷ rest))
@@ -303,6 +308,7 @@ module _ (ns : List Name) (ds : List Binding) (r : ℕ) (rest : List ℕ) where
     next = next-is ds r (length ds) (omega arith);
   }
 
+  -- with all definitions visited the region is closed
   pub ends-end : (t : NameSlots) → Ends None t → AreSlots ns ds rest t
   ends-end t h = record {
     slots = h.slots ∙ map-same (λ x. left (from ds 0 r x) x) (slot_of ds rest) ns each;
@@ -317,6 +323,7 @@ module _ (ns : List Name) (ds : List Binding) (r : ℕ) (rest : List ℕ) where
           by None e = unseen ds rest r 0 x e
           by (Some f) e = refl
 
+  -- one definition more was put back
   pub ends-step : (t : NameSlots) (d : ℕ) (b : Ends (Some d) t) (s : Binding) → slice_get ds d ≡ Some s
       → (n : ℕ) (next : Option ℕ) (out : NameSlot) (new : NameSlots)
       → AreDistinctNames ns → slice_get ns n ≡ Some s.name → s.region ≡ r
@@ -381,12 +388,14 @@ no-region ns ds t v is slots room = record {
 
 -- ---- from the tables
 
+-- what the row of a definition of the region says
 pub record Visited (ns : List Name) (l : Listed) (r d : ℕ) (row : BindingRow) : Type 0 where
   pub there : slice_get (bindings_in ns l) d ≡ Some (binding_of ns row)
   pub named : slice_get ns row.name ≡ Some (numbered_name ns row.name)
   pub region : row.region ≡ r
   pub follows : row.next ≡ last_own (bindings_in ns l) r d
 
+-- a definition of the region has a row
 pub own-within : (ns : List Name) (l : Listed) (r k d : ℕ) → IsOwn (bindings_in ns l) r k d
     → d < l.rows.len
 own-within ns l r k d is =
@@ -395,6 +404,7 @@ own-within ns l r k d is =
     let o = l.rows.ok.0 in
     omega arith
 
+-- the row of a definition of the region
 pub visited : (ns : List Name) (l : Listed) (n r k d : ℕ) (row : BindingRow)
     → IsListed ns (bindings_in ns l) n l → IsOwn (bindings_in ns l) r k d
     → row ≡ get_or l.rows.items d row → Visited ns l r d row
@@ -415,6 +425,7 @@ visited ns l n r k d row h is reads = record {
     region = let h = is.there in let g = at in let one : is.binding ≡ binding_of ns row = cc in
         sym (ap (λ x. x.region) one) ∙ is.region
 
+-- the head of a region is its last definition
 pub head-is : (ns : List Name) (l : Listed) (n r : ℕ) (x : Option ℕ)
     → IsListed ns (bindings_in ns l) n l → r < length l.heads.items
     → x ≡ get_or l.heads.items r x → x ≡ last_own (bindings_in ns l) r (length (bindings_in ns l))
@@ -432,6 +443,7 @@ slot-read f ns slots n x v is named reads =
     reads ∙ ap (λ l. get_or l n v) is
     ∙ get_or_from_slice_get (map f ns) n (f x) v (get-map f ns n x named)
 
+-- the name of a row has a slot
 pub name-within : (f : Name → NameSlot) (ns : List Name) (slots : Vec NameSlot Global) (n : ℕ) (x : Name)
     → slots.items ≡ map f ns → slice_get ns n ≡ Some x → n < slots.len
 name-within f ns slots n x is named =
@@ -441,6 +453,7 @@ name-within f ns slots n x is named =
     let o = slots.ok.0 in
     omega arith
 
+-- the next definition stands lower
 pub falls : (ds : List Binding) (r d : ℕ) (next : Option ℕ) → next ≡ last_own ds r d
     → bound next < suc d
 falls ds r d next is = subst (λ o. bound o < suc d) (sym is) (by (last_own ds r d) refl)
@@ -449,10 +462,12 @@ falls ds r d next is = subst (λ o. bound o < suc d) (sym is) (by (last_own ds r
     by None e = omega arith
     by (Some k) e = let h = last-is ds r d k e in let b = h.below in omega arith
 
+-- the open regions are the innermost one and those round it
 pub round-parts : (round : List ℕ) → 0 < length round → own round ∷ behind_own round ≡ round
 round-parts [] more = absurd (omega arith)
 round-parts (r ∷ rest) more = refl
 
+-- the regions round the innermost one have lower numbers
 pub descend-behind : (n : ℕ) (round : List ℕ) → Descend n round
     → Descend (own round) (behind_own round)
 descend-behind n [] h = tt

@@ -13,11 +13,13 @@ use Rattle.symbol_scopes.specs.Calls.{mark_of, marks_of, IsNamed, AreNamed}
 use Rattle.symbol_scopes.specs.Slots.{Descend}
 use Rattle.symbol_scopes.proofs.Lists.{get-map}
 
+-- the standing behind one mark more
 pub after-more : (s : Standing) (ms : List ScopeMark) (m : ScopeMark)
     → after s (ms ++ m ∷ []) ≡ passed (after s ms) m
 after-more s [] m = refl
 after-more s (x ∷ ms) m = after-more (passed s x) ms m
 
+-- what is said of one mark more
 pub along-more : {A : Type 0} (f : List ℕ → ScopeMark → List A) (s : Standing) (ms : List ScopeMark) (m : ScopeMark)
     → along f s (ms ++ m ∷ []) ≡ along f s ms ++ f (after s ms).round m
 along-more f s [] m = append-nil (f s.round m)
@@ -31,6 +33,7 @@ pub record Further (ms : List ScopeMark) (i : ℕ) (m : ScopeMark) : Type 0 wher
   pub longer : take (i + 1) ms ≡ take i ms ++ m ∷ []
   pub stands : standing (take (i + 1) ms) ≡ passed (standing (take i ms)) m
 
+-- a mark at a place is one mark more
 pub further : (ms : List ScopeMark) (i : ℕ) (m : ScopeMark) → slice_get ms i ≡ Some m → Further ms i m
 further ms i m e = record {
   there = e;
@@ -42,6 +45,7 @@ further ms i m e = record {
     longer = take_more ms i m (slice_get_within ms i m e)
         ∙ ap (λ x. take i ms ++ x ∷ []) (get_or_from_slice_get ms i m m e)
 
+-- what is said of the marks so far, with one more
 pub further-along : {A : Type 0} (f : List ℕ → ScopeMark → List A) (ms : List ScopeMark) (i : ℕ) (m : ScopeMark)
     → Further ms i m
     → along f top (take (i + 1) ms) ≡ along f top (take i ms) ++ f (standing (take i ms)).round m
@@ -51,12 +55,14 @@ further-along f ms i m x = ap (along f top) x.longer ∙ along-more f top (take 
 abbrev pub call_at : List Call → ℕ → Call
 call_at calls i = get_or calls i Enter
 
+-- the mark of the call that a loop is at
 pub at-step : (ns : List Name) (calls : List Call) (i : ℕ) → i < length calls
     → Further (marks_of ns calls) i (mark_of ns (call_at calls i))
 at-step ns calls i less =
     further (marks_of ns calls) i (mark_of ns (call_at calls i))
     (get-map (mark_of ns) calls i (call_at calls i) (slice_get-get_or calls i Enter less))
 
+-- the call that a loop is at has its name
 pub named-at : (n : ℕ) (calls : List Call) (i : ℕ) → AreNamed n calls → i < length calls
     → IsNamed n (call_at calls i)
 named-at n calls i named less = at n calls i (call_at calls i) named (slice_get-get_or calls i Enter less)
@@ -86,10 +92,12 @@ entered-most s (m ∷ ms) =
     step-most s (defines_alias a) = omega arith
     step-most s (mentions_alias a) = omega arith
 
+-- the innermost region has a number below the bound
 pub own-below : (n : ℕ) (round : List ℕ) → 0 < length round → Descend n round → own round < n
 own-below n [] more h = absurd (omega arith)
 own-below n (r ∷ round) more h = h.0
 
+-- what is taken up to the end is all
 pub take-whole : {A : Type 0} (xs : List A) (i : ℕ) → i ≤ length xs → length xs ≤ i → take i xs ≡ xs
 take-whole xs i most least = take_all i xs least
 

@@ -3,9 +3,10 @@
 --   numbered_name ns n     the name with the number n
 --   marks_of ns calls      the marks that calls stand for
 --   AreNamed n calls       each name of the calls is among n names
+--   is_of_blocks call      the call is a label or a successor
 --
 -- Inside: no public clause rests on this.
-use Rattle.std.specs.Prelude.{◌<◌, ℕ, List, [], map, length, get_or}
+use Rattle.std.specs.Prelude.{◌<◌, ℕ, Bool, true, false, List, [], map, length, get_or}
 use Rattle.std.specs.List.{AllByRecursion}
 use Rattle.symbol_scopes.specs.declared.call.Call.{Call}
 use Rattle.symbol_scopes.specs.declared.call.Call.TheVariants as s
@@ -58,3 +59,9 @@ IsNamed n (s.MentionAlias is_type name place) = name < n
 -- the name of each call is among the first n
 abbrev pub AreNamed : ℕ → List Call → Type 0
 AreNamed n calls = AllByRecursion (IsNamed n) calls
+
+-- the call is a label or a successor
+abbrev pub is_of_blocks : Call → Bool
+is_of_blocks (s.Label name place block) = true
+is_of_blocks (s.LeadTo name place) = true
+is_of_blocks _ = false

@@ -9,8 +9,8 @@
 use Rattle.std.specs.Prelude.{◌≡◌, ℕ, ◌+◌, ◌<◌, ◌≤◌, suc, zero, Bool, false, ◌==◌, List, map, length, slice_get, if◌then◌else◌}
 use Rattle.std.specs.declared.option.Option.{Option}
 use Rattle.std.specs.declared.option.Option.TheVariants.{Some, None}
-use Rattle.symbol_scopes.specs.declared.listed.BindingRow.{BindingRow}
-use Rattle.symbol_scopes.specs.declared.listed.Listed.{Listed}
+use Rattle.symbol_scopes.specs.declared.rows.BindingRow.{BindingRow}
+use Rattle.symbol_scopes.specs.declared.rows.Listed.{Listed}
 use Rattle.symbol_scopes.specs.ScopeMarks.{Name, Binding}
 use Rattle.symbol_scopes.specs.Calls.{numbered_name}
 

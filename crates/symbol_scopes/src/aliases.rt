@@ -31,16 +31,16 @@ impl AliasSet {
     }
 
     /// Whether an alias is known.
-    fn has(&self, names: &Names, is_type: bool, name: usize) -> bool
+    fn has(&self, names: &Names, is_type: bool, name: u32) -> bool
         requires known { (before : List ScopeMark) × KnowsAliases names.now before self.now }
         requires named { name < length names.now }
         ensures { (before : List ScopeMark) → KnowsAliases names.now before self.now →
             result ≡ spec.is_alias_known before is_type (numbered_name names.now name) }
     {
         if is_type {
-            self.types[name]
+            self.types[name as usize]
         } else {
-            self.attributes[name]
+            self.attributes[name as usize]
         }
     }
 
@@ -55,9 +55,9 @@ impl AliasSet {
         match next {
             Call::DefineAlias { is_type, name, .. } => {
                 if is_type {
-                    self.types[name] = true;
+                    self.types[name as usize] = true;
                 } else {
-                    self.attributes[name] = true;
+                    self.attributes[name as usize] = true;
                 }
             }
             _ => {}

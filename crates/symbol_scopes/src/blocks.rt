@@ -10,12 +10,14 @@ ghost use Rattle.symbol_scopes.specs.ScopeMarks.{bindings_of};
 ghost use Rattle.symbol_scopes.specs.Meanings.{block_meanings};
 ghost use Rattle.symbol_scopes.specs.Meanings as meaning;
 ghost use Rattle.symbol_scopes.specs.Slots.{AreSlots};
-ghost use Rattle.symbol_scopes.specs.Calls.{mark_of, marks_of, AreNamed, IsNamed};
+ghost use Rattle.std.specs.List.{list_any};
+ghost use Rattle.symbol_scopes.specs.Calls.{is_of_blocks, mark_of, marks_of, AreNamed, IsNamed};
 ghost use Rattle.symbol_scopes.specs.declared.call.NameKind.TheVariants as kind;
 
 use crate::call::{Call, NameKind};
-use crate::listed::{Listed, list_bindings};
+use crate::listed::list_bindings;
 use crate::names::Names;
+use crate::rows::Listed;
 use crate::walk::Walk;
 use first_fault::{Fault, earlier};
 use std::alloc::{AllocError, Global};
@@ -23,7 +25,7 @@ use std::alloc::{AllocError, Global};
 /// What successors mean, and the first fault.
 #[derive(Drop)]
 pub struct JudgedBlocks {
-    pub meanings: Vec<usize>,
+    pub meanings: Vec<u32>,
     pub first: Option<Fault>,
 }
 
@@ -47,7 +49,7 @@ fn block_fault(
         Call::Label { name, place, .. } => {
             match walk.own_found(names, listed, name) {
                 Some(f) => {
-                    if f.at < before {
+                    if (f.at as usize) < before {
                         Some(Fault { place, code: 11 })
                     } else {
                         None
@@ -73,7 +75,7 @@ fn block_fault(
 }
 
 /// What a call means, if it is a successor.
-fn block_meaning(walk: &Walk, names: &Names, listed: &Listed, next: Call) -> Option<usize>
+fn block_meaning(walk: &Walk, names: &Names, listed: &Listed, next: Call) -> Option<u32>
     requires named { IsNamed (length names.now) next }
     requires slots { AreSlots names.now (bindings_in names.now listed.now)
         walk.now.round.round walk.now.slots }
@@ -139,12 +141,40 @@ impl JudgedBlocks {
     }
 }
 
-/// What each successor means, and the first fault of labels.
+/// What each successor means, and the first fault of labels. Where there is neither label nor
+/// successor, no table is made.
 pub fn judge_blocks(
     alloc: Global,
     names: &Names,
     calls: &[Call],
 ) -> Result<JudgedBlocks, AllocError>
+    requires named { AreNamed (length names.now) calls.now }
+    requires room { length calls.now < 2 ^ 63 }
+    ensures first { IfOk result (λ v. IsFirst
+        (IsFaultBy (blocks_rule (marks_of names.now calls.now))
+        (marks_of names.now calls.now)) v.first) }
+    ensures meanings { IfOk result (λ v. v.first ≡ None →
+        map Some v.meanings.items ≡ block_meanings (marks_of names.now calls.now)) }
+{
+    if speak_of_blocks(calls) {
+        walk_blocks(alloc, names, calls)
+    } else {
+        Ok(JudgedBlocks {
+            meanings: Vec::new(alloc),
+            first: None,
+        })
+    }
+}
+
+/// Whether one of the calls is a label or a successor.
+fn speak_of_blocks(calls: &[Call]) -> bool
+    ensures { result ≡ list_any is_of_blocks calls.now }
+{
+    calls.iter().any(|call| call.is_of_blocks())
+}
+
+/// The same, by a walk over the calls.
+fn walk_blocks(alloc: Global, names: &Names, calls: &[Call]) -> Result<JudgedBlocks, AllocError>
     requires named { AreNamed (length names.now) calls.now }
     requires room { length calls.now < 2 ^ 63 }
     ensures first { IfOk result (λ v. IsFirst

@@ -1,5 +1,7 @@
 //! What a caller noted, as it is kept: one `Call` for each.
 
+ghost use Rattle.std.specs.Prelude.{◌≡◌};
+
 /// The two kinds of names that regions define.
 #[derive(Clone, Copy)]
 pub enum NameKind {
@@ -13,23 +15,23 @@ pub enum Call {
     Enter,
     Leave,
     Define {
-        name: usize,
+        name: u32,
         place: u32,
         count: u32,
     },
     Use {
-        name: usize,
+        name: u32,
         place: u32,
         number: u32,
         number_place: u32,
     },
     Label {
-        name: usize,
+        name: u32,
         place: u32,
-        block: usize,
+        block: u32,
     },
     LeadTo {
-        name: usize,
+        name: u32,
         place: u32,
     },
     BadPack {
@@ -37,12 +39,23 @@ pub enum Call {
     },
     DefineAlias {
         is_type: bool,
-        name: usize,
+        name: u32,
         place: u32,
     },
     MentionAlias {
         is_type: bool,
-        name: usize,
+        name: u32,
         place: u32,
     },
+}
+
+impl Call {
+    ghost use Rattle.symbol_scopes.specs.Calls as spec;
+
+    /// Whether the call is a label or a successor.
+    pub fn is_of_blocks(self) -> bool
+        ensures { result ≡ spec.is_of_blocks self }
+    {
+        matches!(self, Call::Label { .. } | Call::LeadTo { .. })
+    }
 }

@@ -16,6 +16,7 @@ mod laws;
 mod listed;
 mod names;
 mod round;
+mod rows;
 mod scopes;
 mod slots;
 mod values;

@@ -8,24 +8,8 @@ ghost use Rattle.symbol_scopes.specs.Listed.{IsListed, bindings_in};
 use crate::call::{Call, NameKind};
 use crate::names::Names;
 use crate::round::Round;
+use crate::rows::{BindingRow, Listed};
 use std::alloc::{AllocError, Global};
-
-/// A definition: the number of its name, its region, the size of its pack or the number of its
-/// block, and the definition before it in its region.
-#[derive(Clone, Copy)]
-pub struct BindingRow {
-    pub name: usize,
-    pub region: usize,
-    pub number: usize,
-    pub next: Option<usize>,
-}
-
-/// The definitions, and the last one of each region.
-#[derive(Drop)]
-pub struct Listed {
-    pub rows: Vec<BindingRow>,
-    pub heads: Vec<Option<usize>>,
-}
 
 impl Listed {
     /// No definition; the top level alone.
@@ -50,21 +34,25 @@ impl Listed {
     }
 
     /// One definition more.
-    fn add(&mut self, region: usize, name: usize, number: usize) -> Result<(), AllocError>
+    fn add(&mut self, region: u32, name: u32, number: u32) -> Result<(), AllocError>
         requires { region < length self.old.heads.items }
         ensures { OnOk result ((ns : List (List ℕ)) (ds : List Binding) (n : ℕ) →
             IsListed ns ds n self.old → name < length ns →
-            IsListed ns (ds ++ record { name = numbered_name ns name; region = region; number = number } ∷ []) n self.new) }
+            let more : Binding = record { name = numbered_name ns name; region = region; number = number } in
+            IsListed ns (ds ++ more ∷ []) n self.new) }
     {
-        let next = self.heads[region];
         let at = self.rows.len();
+        if at >= u32::MAX as usize {
+            return Err(AllocError);
+        }
+        let next = self.heads[region as usize];
         self.rows.push(BindingRow {
             name,
             region,
             number,
             next,
         })?;
-        self.heads[region] = Some(at);
+        self.heads[region as usize] = Some(at as u32);
         Ok(())
     }
 
@@ -77,7 +65,6 @@ impl Listed {
         kind: NameKind,
     ) -> Result<(), AllocError>
         requires named { IsNamed (length names.now) next }
-        requires room { round.old.entered + 1 < 2 ^ 64 }
         requires listed { IsListed names.now (bindings_in names.now self.old)
             (round.old.entered + 1) self.old }
         ensures round { OnOk result (round.new ≡ passed round.old (mark_of names.now next)) }
@@ -93,7 +80,7 @@ impl Listed {
             }
             (Call::Leave, _) => round.leave(),
             (Call::Define { name, count, .. }, NameKind::Values) => {
-                self.add(round.region(), name, count as usize)?;
+                self.add(round.region(), name, count)?;
             }
             (Call::Label { name, block, .. }, NameKind::Labels) => {
                 self.add(round.region(), name, block)?;

@@ -41,8 +41,21 @@ impl Names {
         self.keys.len()
     }
 
-    /// The number of a name, which is kept from now on.
-    pub fn number(&mut self, name: &[u8]) -> Result<usize, AllocError>
+    /// The number of a name, which is kept from now on. There is memory for `u32::MAX` names.
+    pub fn number(&mut self, name: &[u8]) -> Result<u32, AllocError>
+        ensures ok { IfOk result (λ n. slice_get self.new n ≡ Some name.now) }
+        ensures kept { (self.new ≡ self.old) ⊎ (self.new ≡ self.old ++ name.now ∷ []) }
+        ensures err { OnErr result (self.new ≡ self.old) }
+    {
+        if self.len() >= u32::MAX as usize {
+            return Err(AllocError);
+        }
+        let place = self.place(name)?;
+        Ok(place as u32)
+    }
+
+    /// The place of a name, which is kept from now on.
+    fn place(&mut self, name: &[u8]) -> Result<usize, AllocError>
         ensures ok { IfOk result (λ n. slice_get self.new n ≡ Some name.now) }
         ensures kept { (self.new ≡ self.old) ⊎ (self.new ≡ self.old ++ name.now ∷ []) }
         ensures err { OnErr result (self.new ≡ self.old) }

@@ -11,8 +11,8 @@ use std::marker::Model;
 /// The numbers of the open regions, the innermost last, and how many were entered.
 #[derive(Drop)]
 pub struct Round {
-    entered: usize,
-    regions: Vec<usize>,
+    entered: u32,
+    regions: Vec<u32>,
 }
 
 impl Model for Round {
@@ -42,7 +42,7 @@ impl Round {
     }
 
     /// The innermost region.
-    pub fn region(&self) -> usize
+    pub fn region(&self) -> u32
         ensures own { result ≡ own self.now.round }
         ensures some { 0 < length self.now.round }
         ensures descend { Descend (self.now.entered + 1) self.now.round }
@@ -58,11 +58,13 @@ impl Round {
         self.regions.len() > 1
     }
 
-    /// A region begins.
+    /// A region begins. There is memory for `u32::MAX` of them.
     pub fn enter(&mut self) -> Result<(), AllocError>
-        requires { self.old.entered + 1 < 2 ^ 64 }
         ensures { OnOk result (self.new ≡ passed self.old enters) }
     {
+        if self.entered == u32::MAX {
+            return Err(AllocError);
+        }
         self.regions.push(self.entered + 1)?;
         self.entered += 1;
         Ok(())

@@ -59,8 +59,8 @@ impl Model for Scopes {
 /// What uses and successors mean.
 #[derive(Drop)]
 pub struct Uses {
-    values: Vec<(usize, u32)>,
-    blocks: Vec<usize>,
+    values: Vec<(u32, u32)>,
+    blocks: Vec<u32>,
 }
 
 impl Model for Uses {
@@ -77,7 +77,10 @@ impl Uses {
     pub fn value(&self, mention: usize) -> Option<(usize, u32)>
         ensures { result ≡ slice_get self.now.values mention }
     {
-        self.values.get(mention).copied()
+        match self.values.get(mention) {
+            Some(meant) => Some((meant.0 as usize, meant.1)),
+            None => None,
+        }
     }
 
     /// The number of the block that a successor means; `None` exactly where there is no such
@@ -85,7 +88,10 @@ impl Uses {
     pub fn block(&self, mention: usize) -> Option<usize>
         ensures { result ≡ slice_get self.now.blocks mention }
     {
-        self.blocks.get(mention).copied()
+        match self.blocks.get(mention) {
+            Some(block) => Some(*block as usize),
+            None => None,
+        }
     }
 }
 
@@ -166,13 +172,17 @@ impl Scopes {
         Ok(at)
     }
 
-    /// The label of a block of the innermost region.
+    /// The label of a block of the innermost region. There is memory for `u32::MAX` blocks.
     pub fn define_block(&mut self, name: &[u8], place: u32, block: usize) -> Result<(), AllocError>
         ensures ok { OnOk result (self.new ≡ self.old
             ++ mark.labels (record { name = name.now; place = place; block = block }) ∷ []) }
         ensures err { OnErr result (self.new ≡ self.old) }
     {
+        if block > u32::MAX as usize {
+            return Err(AllocError);
+        }
         let name = self.names.number(name)?;
+        let block = block as u32;
         self.calls.push(Call::Label { name, place, block })?;
         Ok(())
     }

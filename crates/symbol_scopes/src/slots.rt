@@ -5,18 +5,18 @@ ghost use Rattle.symbol_scopes.specs.ScopeMarks.{Binding, own, behind_own};
 ghost use Rattle.symbol_scopes.specs.Listed.{IsListed, bindings_in};
 ghost use Rattle.symbol_scopes.specs.Slots.{AreSlots, outer_of, IsOuterKept};
 
-use crate::listed::Listed;
 use crate::names::Names;
 use crate::round::Round;
+use crate::rows::Listed;
 use std::alloc::{AllocError, Global};
 
 /// A definition that a name means: its number, its region, and the size of its pack or the number of
 /// its block.
 #[derive(Clone, Copy)]
 pub struct FoundBinding {
-    pub at: usize,
-    pub region: usize,
-    pub number: usize,
+    pub at: u32,
+    pub region: u32,
+    pub number: u32,
 }
 
 /// What a name means, and the least number of a definition of it in the open regions; the count of
@@ -24,7 +24,7 @@ pub struct FoundBinding {
 #[derive(Clone, Copy)]
 pub struct NameSlot {
     pub found: Option<FoundBinding>,
-    pub least: usize,
+    pub least: u32,
 }
 
 /// A slot for each name, and for each definition in an open region that of its name outside.
@@ -35,14 +35,14 @@ pub struct NameSlots {
 }
 
 /// What a name means outside a region, by its slot in it.
-fn outer_slot(slot: NameSlot, saved: &[NameSlot], region: usize) -> NameSlot
+fn outer_slot(slot: NameSlot, saved: &[NameSlot], region: u32) -> NameSlot
     requires { IsOuterKept slot (length saved.now) region }
     ensures { result ≡ outer_of slot saved.now region }
 {
     match slot.found {
         Some(f) => {
             if f.region == region {
-                saved[f.at]
+                saved[f.at as usize]
             } else {
                 slot
             }
@@ -58,7 +58,7 @@ impl NameSlots {
     {
         let slot = NameSlot {
             found: None,
-            least: listed.rows.len(),
+            least: listed.rows.len() as u32,
         };
         Ok(NameSlots {
             slots: vec![in alloc; slot; names.len()]?,
@@ -77,13 +77,13 @@ impl NameSlots {
     {
         let region = round.region();
         let _ = names.len();
-        let mut at = listed.heads[region];
+        let mut at = listed.heads[region as usize];
         while let Some(d) = at {
-            let row = listed.rows[d];
-            let slot = self.slots[row.name];
+            let row = listed.rows[d as usize];
+            let slot = self.slots[row.name as usize];
             let out = outer_slot(slot, self.saved.as_slice(), region);
-            self.saved[d] = out;
-            self.slots[row.name] = NameSlot {
+            self.saved[d as usize] = out;
+            self.slots[row.name as usize] = NameSlot {
                 found: Some(FoundBinding {
                     at: d,
                     region,
@@ -107,10 +107,10 @@ impl NameSlots {
     {
         let region = round.region();
         let _ = names.len();
-        let mut at = listed.heads[region];
+        let mut at = listed.heads[region as usize];
         while let Some(d) = at {
-            let row = listed.rows[d];
-            self.slots[row.name] = self.saved[d];
+            let row = listed.rows[d as usize];
+            self.slots[row.name as usize] = self.saved[d as usize];
             at = row.next;
         }
     }

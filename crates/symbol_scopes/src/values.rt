@@ -14,8 +14,9 @@ ghost use Rattle.symbol_scopes.specs.Calls.{mark_of, marks_of, AreNamed, IsNamed
 ghost use Rattle.symbol_scopes.specs.declared.call.NameKind.TheVariants as kind;
 
 use crate::call::{Call, NameKind};
-use crate::listed::{Listed, list_bindings};
+use crate::listed::list_bindings;
 use crate::names::Names;
+use crate::rows::Listed;
 use crate::walk::Walk;
 use first_fault::{Fault, earlier};
 use std::alloc::{AllocError, Global};
@@ -23,7 +24,7 @@ use std::alloc::{AllocError, Global};
 /// What uses mean, and the first fault.
 #[derive(Drop)]
 pub struct JudgedValues {
-    pub meanings: Vec<(usize, u32)>,
+    pub meanings: Vec<(u32, u32)>,
     pub first: Option<Fault>,
 }
 
@@ -45,7 +46,7 @@ fn value_fault(
 {
     match next {
         Call::Define { name, place, .. } => {
-            if walk.slot(names, listed, name).least < before {
+            if (walk.slot(names, listed, name).least as usize) < before {
                 Some(Fault { place, code: 8 })
             } else {
                 None
@@ -60,7 +61,7 @@ fn value_fault(
             match walk.slot(names, listed, name).found {
                 None => Some(Fault { place, code: 7 }),
                 Some(f) => {
-                    if 0 < f.number && f.number <= number as usize {
+                    if 0 < f.number && f.number <= number {
                         Some(Fault {
                             place: number_place,
                             code: 9,
@@ -76,7 +77,7 @@ fn value_fault(
 }
 
 /// What a call means, if it is a use.
-fn value_meaning(walk: &Walk, names: &Names, listed: &Listed, next: Call) -> Option<(usize, u32)>
+fn value_meaning(walk: &Walk, names: &Names, listed: &Listed, next: Call) -> Option<(u32, u32)>
     requires named { IsNamed (length names.now) next }
     requires slots { AreSlots names.now (bindings_in names.now listed.now)
         walk.now.round.round walk.now.slots }

@@ -8,9 +8,9 @@ ghost use Rattle.symbol_scopes.specs.Calls.{mark_of, numbered_name};
 ghost use Rattle.symbol_scopes.specs.Meanings.{first_in};
 
 use crate::call::Call;
-use crate::listed::Listed;
 use crate::names::Names;
 use crate::round::Round;
+use crate::rows::Listed;
 use crate::slots::{FoundBinding, NameSlot, NameSlots};
 use std::alloc::{AllocError, Global};
 
@@ -66,18 +66,18 @@ impl Walk {
     }
 
     /// What a name means here.
-    pub fn slot(&self, names: &Names, listed: &Listed, name: usize) -> NameSlot
+    pub fn slot(&self, names: &Names, listed: &Listed, name: u32) -> NameSlot
         requires slots { AreSlots names.now (bindings_in names.now listed.now)
             self.now.round.round self.now.slots }
         requires named { name < length names.now }
         ensures { result ≡ slot_of (bindings_in names.now listed.now) self.now.round.round
             (numbered_name names.now name) }
     {
-        self.slots.slots[name]
+        self.slots.slots[name as usize]
     }
 
     /// The first definition of a name in the innermost region.
-    pub fn own_found(&self, names: &Names, listed: &Listed, name: usize) -> Option<FoundBinding>
+    pub fn own_found(&self, names: &Names, listed: &Listed, name: u32) -> Option<FoundBinding>
         requires slots { AreSlots names.now (bindings_in names.now listed.now)
             self.now.round.round self.now.slots }
         requires named { name < length names.now }
@@ -89,7 +89,7 @@ impl Walk {
 }
 
 /// A definition, if it is in a region.
-fn in_region(found: Option<FoundBinding>, region: usize) -> Option<FoundBinding>
+fn in_region(found: Option<FoundBinding>, region: u32) -> Option<FoundBinding>
     ensures { result ≡ in_own found region }
 {
     match found {

@@ -1,7 +1,7 @@
 use Rattle.std.proofs.Common.{refl, ◌∙◌}
 use Rattle.std.proofs.lemmas.Option.{slice_get_read}
 use Rattle.symbol_scopes.proofs.Listing.{listed-add}
-use Rattle.symbol_scopes.proofs.listed.Listed.add.Goals as goal
+use Rattle.symbol_scopes.proofs.rows.Listed.add.Goals as goal
 
 pub returns : goal.returns
 returns c = λ ns ds n h named.

@@ -6,7 +6,7 @@ use Rattle.symbol_scopes.specs.ScopeMarks.{along, top, bindings}
 use Rattle.symbol_scopes.specs.Meanings.{block_meaning}
 use Rattle.symbol_scopes.specs.Calls.{marks_of}
 use Rattle.symbol_scopes.proofs.Judging.{Going}
-use Rattle.symbol_scopes.proofs.blocks.judge_blocks.Given as goal
+use Rattle.symbol_scopes.proofs.blocks.walk_blocks.Given as goal
 
 abbrev pub invariant-loop-next : goal.invariant-loop-next
 invariant-loop-next l = record {

@@ -3,7 +3,7 @@ use Rattle.symbol_scopes.specs.ScopeMarks.{bindings_of, Binding}
 use Rattle.symbol_scopes.specs.Calls.{mark_of, IsNamed}
 use Rattle.symbol_scopes.specs.Listed.{IsListed, bindings_in}
 use Rattle.symbol_scopes.proofs.Listing.{listed-same, none-more, enters-none, binding-value, binding-label}
-use Rattle.symbol_scopes.proofs.listed.Listed.take.Goals as goal
+use Rattle.symbol_scopes.proofs.rows.Listed.take.Goals as goal
 
 pub returns-in_ok-enter-in-Enter-default-2-clause-listed : goal.returns-in_ok-enter-in-Enter-default-2-clause-listed
 returns-in_ok-enter-in-Enter-default-2-clause-listed c =
