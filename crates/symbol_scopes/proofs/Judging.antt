@@ -1,5 +1,5 @@
 -- A walk that judges each mark where it stands.
-use Rattle.std.proofs.Common.{◌≡◌, ℕ, zero, suc, ◌+◌, ◌<◌, ◌≤◌, ◌==◌, nat_lt, Bool, true, false, List, [], ◌∷◌, ◌++◌, length, take, drop, refl, ap, sym, ◌∙◌, subst, arith, length-append, append_assoc, if◌then◌else◌}
+use Rattle.std.proofs.Common.{◌≡◌, ℕ, ◌+◌, ◌<◌, ◌≤◌, ◌==◌, nat_lt, true, false, List, [], ◌∷◌, ◌++◌, length, take, drop, refl, ap, sym, ◌∙◌, subst, arith, length-append, append_assoc, if◌then◌else◌}
 use Rattle.std.proofs.lemmas.Bool.Decides.{nat_tests}
 use Rattle.std.proofs.lemmas.List.{take-append-drop}
 use Rattle.std.specs.declared.option.Option.{Option}
@@ -15,12 +15,12 @@ use Rattle.symbol_scopes.specs.Faults.{value_fault, fault_if}
 use Rattle.first_fault.specs.Firsts.{earlier_of}
 use Rattle.first_fault.specs.declared.fault.Fault.{Fault}
 use Rattle.first_fault.proofs.Firsts.{earlier_of-both-none}
-use Rattle.first_fault.proofs.Rules.{first-more, first-none}
+use Rattle.first_fault.proofs.Rules.{first-more}
 use Rattle.symbol_scopes.specs.Calls.{numbered_name, mark_of}
 use Rattle.symbol_scopes.specs.declared.walk.Walk.{Walk}
 use Rattle.symbol_scopes.specs.ScopeMarks.{Name, ScopeMark, Binding, Standing, passed, after, along, top, standing, bindings, bindings_of, own}
 use Rattle.symbol_scopes.specs.ScopeMarks.{enters, leaves, defines, uses, labels, leads_to, bad_pack, defines_alias, mentions_alias}
-use Rattle.symbol_scopes.specs.Meanings.{first_in, meant, or_else, found_at}
+use Rattle.symbol_scopes.specs.Meanings.{first_in, meant, or_else}
 use Rattle.symbol_scopes.specs.Listed.{IsListed, bindings_in}
 use Rattle.symbol_scopes.specs.Slots.{AreSlots, Descend, in_own, slot_of}
 use Rattle.symbol_scopes.proofs.Listing.{listed-same}

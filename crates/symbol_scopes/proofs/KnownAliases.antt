@@ -1,17 +1,16 @@
 -- The aliases that are known, after one mark more.
-use Rattle.std.proofs.Common.{◌≡◌, ℕ, ◌+◌, ◌<◌, Bool, true, false, not, ◌&&◌, ◌||◌, List, [], ◌∷◌, ◌++◌, length, get_or, set, map, replicate, refl, ap, sym, ◌∙◌, subst, slice_get, bytes_eq, if◌then◌else◌}
+use Rattle.std.proofs.Common.{◌≡◌, ℕ, ◌<◌, Bool, true, false, ◌||◌, List, [], ◌∷◌, ◌++◌, length, get_or, set, map, refl, ap, sym, ◌∙◌, subst, bytes_eq, if◌then◌else◌}
 use Rattle.std.specs.List.{list_any}
 use Rattle.std.proofs.lemmas.Option.{slice_get-get_or, get_or_from_slice_get}
-use Rattle.std.specs.declared.option.Option.TheVariants.{Some}
 use Rattle.symbol_scopes.specs.declared.aliases.AliasSet.{AliasSet}
 use Rattle.symbol_scopes.specs.declared.call.Call.{Call}
 use Rattle.symbol_scopes.specs.declared.call.Call.TheVariants as s
 use Rattle.symbol_scopes.specs.ScopeMarks.{Name, ScopeMark}
-use Rattle.symbol_scopes.specs.Faults.{is_alias_known, defines_it, same_kind}
+use Rattle.symbol_scopes.specs.Faults.{is_alias_known, defines_it}
 use Rattle.symbol_scopes.specs.Aliases.{KnowsAliases}
 use Rattle.symbol_scopes.specs.Slots.{AreDistinctNames}
 use Rattle.symbol_scopes.specs.Calls.{mark_of, numbered_name}
-use Rattle.symbol_scopes.proofs.Lists.{set-map, map-same, map-one, get-map}
+use Rattle.symbol_scopes.proofs.Lists.{set-map, map-same, get-map}
 
 any-push : (p : ScopeMark → Bool) (xs : List ScopeMark) (m : ScopeMark)
     → list_any p (xs ++ m ∷ []) ≡ (list_any p xs || p m)

@@ -1,9 +1,9 @@
 -- The table of definitions, as it grows.
-use Rattle.std.proofs.Common.{◌≡◌, ℕ, zero, suc, ◌+◌, ◌<◌, ◌≤◌, ◌⊎◌, inl, inr, Bool, true, false, ◌==◌, List, [], ◌∷◌, ◌++◌, length, get_or, set, map, reverse, refl, ap, sym, ◌∙◌, subst, arith, slice_get, if◌then◌else◌, length-append, option_to_list, IsSome}
+use Rattle.std.proofs.Common.{◌≡◌, ℕ, zero, suc, ◌+◌, ◌<◌, ◌≤◌, inl, inr, Bool, true, false, ◌==◌, List, [], ◌∷◌, ◌++◌, length, set, map, reverse, refl, ap, sym, ◌∙◌, subst, arith, slice_get, if◌then◌else◌, length-append, option_to_list}
 use Rattle.std.proofs.lemmas.Bool.{cases_lt, eqb-true}
 use Rattle.std.proofs.lemmas.Bool.Decides.{nat_tests}
 use Rattle.std.proofs.lemmas.List.{map-append, length-set, length-map, reverse-append, append-nil}
-use Rattle.std.proofs.lemmas.Option.{slice_get_within, get_or_from_slice_get}
+use Rattle.std.proofs.lemmas.Option.{slice_get_within}
 use Rattle.std.specs.declared.option.Option.{Option}
 use Rattle.std.specs.declared.option.Option.TheVariants.{Some, None}
 use Rattle.symbol_scopes.specs.declared.rows.BindingRow.{BindingRow}
@@ -16,7 +16,7 @@ use Rattle.symbol_scopes.specs.declared.call.Call.TheVariants.{Define, Label}
 use Rattle.symbol_scopes.specs.Calls.{numbered_name, mark_of}
 use Rattle.symbol_scopes.specs.Listed.{binding_of, bindings_in, is_in_region, last_own, IsListed}
 use Rattle.symbol_scopes.specs.Slots.{Descend}
-use Rattle.symbol_scopes.proofs.Lists.{get-front, get-seam, get-push, get-before, get-written, get-unwritten, get-unmap, get-map}
+use Rattle.symbol_scopes.proofs.Lists.{get-front, get-seam, get-push, get-before, get-written, get-unwritten, get-unmap}
 use Rattle.symbol_scopes.proofs.Finds.{itself}
 
 -- the definitions that are there decide on the last one of a region below k

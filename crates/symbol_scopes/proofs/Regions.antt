@@ -1,5 +1,5 @@
 -- The marks of notes, and what they mean region by region.
-use Rattle.std.proofs.Common.{◌≡◌, ℕ, zero, suc, ◌+◌, ◌<◌, ◌≤◌, ◌⊎◌, inl, inr, Bool, true, false, ◌&&◌, ◌||◌, ◌==◌, not, nat_lt, List, [], ◌∷◌, ◌++◌, length, take, drop, refl, ap, sym, ◌∙◌, subst, arith, length-append, append_assoc, append-nil, bytes_eq, if◌then◌else◌, option_to_list, option_map, slice_get, take}
+use Rattle.std.proofs.Common.{◌≡◌, ℕ, zero, suc, ◌+◌, ◌<◌, ◌≤◌, ◌⊎◌, inl, inr, Bool, true, false, ◌&&◌, ◌||◌, ◌==◌, List, [], ◌∷◌, ◌++◌, length, take, drop, refl, ap, sym, ◌∙◌, subst, arith, length-append, append_assoc, append-nil, bytes_eq, if◌then◌else◌, option_to_list, option_map, slice_get, take}
 use Rattle.std.proofs.lemmas.Bool.{eqb-true}
 use Rattle.std.proofs.lemmas.Bool.Decides.{nat_tests}
 use Rattle.std.proofs.lemmas.List.Elements.{Contains-append_left, Contains-append_right, Contains-append_cases, Contains-push, Contains-push_cases, at_from_Contains}
@@ -14,7 +14,7 @@ use Rattle.symbol_scopes.specs.ScopeMarks.{Name, ScopeMark, Binding, Standing, p
 use Rattle.symbol_scopes.specs.ScopeMarks as mark
 use Rattle.symbol_scopes.specs.Meanings.{is_of, found_at, first_from, first_in, meant, or_else, is_before, is_defined_before, use_of, block_of, value_meaning, block_meaning, value_meanings, block_meanings}
 use Rattle.first_fault.specs.Firsts.{Rule, IsFaultBy}
-use Rattle.symbol_scopes.specs.Faults.{value_fault, block_fault, use_fault, target_fault, fault_if, IsNameFault, values_rule, blocks_rule, alias_fault}
+use Rattle.symbol_scopes.specs.Faults.{value_fault, block_fault, use_fault, target_fault, fault_if, IsNameFault}
 use Rattle.symbol_scopes.specs.Regions.{Note, Notes, no_notes, note, in_region, mark_of_note, marks, ScopeName, RegionScope, known_of, count_of, count, own, found, looked, innermost, told, told_in, value_meant, block_meant, is_earlier, is_repeated, use_wrong, value_wrong, target_wrong, block_wrong, IsWrong}
 use Rattle.symbol_scopes.specs.Regions as say
 use Rattle.std.proofs.lemmas.List.{take-append-drop}

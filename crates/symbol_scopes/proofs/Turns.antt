@@ -1,8 +1,8 @@
 -- NameSlots as a region begins and ends: each definition of the region is visited, from the last one
 -- down.
-use Rattle.std.proofs.Common.{◌≡◌, ℕ, zero, suc, ◌+◌, ◌<◌, ◌≤◌, ◌⊎◌, inl, inr, Bool, true, false, ◌&&◌, ◌==◌, List, [], ◌∷◌, ◌++◌, length, get_or, set, map, min, refl, ap, sym, ◌∙◌, subst, arith, slice_get, bytes_eq, if◌then◌else◌, replicate, Vec}
+use Rattle.std.proofs.Common.{◌≡◌, ℕ, zero, suc, ◌<◌, ◌≤◌, inl, inr, Bool, true, false, ◌&&◌, ◌==◌, List, [], ◌∷◌, ◌++◌, length, get_or, set, map, min, refl, ap, sym, ◌∙◌, subst, arith, slice_get, bytes_eq, if◌then◌else◌, replicate, Vec}
 use Rattle.std.proofs.Common.{Global}
-use Rattle.std.proofs.lemmas.Bool.{cases_lt, eqb-true}
+use Rattle.std.proofs.lemmas.Bool.{cases_lt}
 use Rattle.std.proofs.lemmas.Bool.Decides.{nat_tests}
 use Rattle.std.proofs.lemmas.List.{length-set, length-map}
 use Rattle.std.proofs.lemmas.Option.{get_or_from_slice_get, slice_get-get_or, slice_get_read, slice_get_within}
@@ -15,11 +15,11 @@ use Rattle.symbol_scopes.specs.declared.rows.BindingRow.{BindingRow}
 use Rattle.symbol_scopes.specs.declared.rows.Listed.{Listed}
 use Rattle.symbol_scopes.specs.ScopeMarks.{Name, Binding, own, behind_own}
 use Rattle.symbol_scopes.specs.Calls.{numbered_name}
-use Rattle.symbol_scopes.specs.Meanings.{is_of, found_at, first_in, meant, or_else}
+use Rattle.symbol_scopes.specs.Meanings.{is_of, found_at, meant, or_else}
 use Rattle.symbol_scopes.specs.Listed.{last_own, bindings_in, binding_of, IsListed}
 use Rattle.symbol_scopes.specs.Slots.{at_or, least_of, slot_of, Descend, AreDistinctNames, AreSlots, outer_of, outer_found, IsOuterKept, IsFoundKept}
-use Rattle.symbol_scopes.proofs.Lists.{set-map, map-same, map-one, get-map, get-written, get-unwritten, same-name, name-itself}
-use Rattle.symbol_scopes.proofs.Finds.{bound, from, from-here, from-bound, from-end, IsOwn, last-is, last-below, IsFound, found-is, meant-below, least-most, itself}
+use Rattle.symbol_scopes.proofs.Lists.{set-map, map-same, map-one, get-map, get-written, get-unwritten, same-name}
+use Rattle.symbol_scopes.proofs.Finds.{bound, from, from-here, from-bound, from-end, IsOwn, last-is, last-below, found-is, meant-below, least-most, itself}
 
 -- the definition that is to be visited next is in the region
 abbrev pub IsNext : List Binding → ℕ → Option ℕ → Type 0

@@ -1,8 +1,7 @@
 -- A text without labels and successors: no rule on labels is broken in it, and no block is meant.
-use Rattle.std.proofs.Common.{◌≡◌, ℕ, Bool, true, false, ◌||◌, List, [], ◌∷◌, ◌++◌, length, refl, ap, sym, ◌∙◌, subst, map}
+use Rattle.std.proofs.Common.{◌≡◌, ℕ, Bool, true, false, ◌||◌, List, [], ◌∷◌, ◌++◌, length, refl, ap, ◌∙◌, subst}
 use Rattle.std.specs.List.{list_any}
 use Rattle.std.specs.declared.option.Option.TheVariants.{Some, None}
-use Rattle.first_fault.specs.declared.fault.Fault.{Fault}
 use Rattle.first_fault.specs.Firsts.{IsFirst, IsFaultBy}
 use Rattle.symbol_scopes.specs.declared.call.Call.{Call}
 use Rattle.symbol_scopes.specs.declared.call.Call.TheVariants as s

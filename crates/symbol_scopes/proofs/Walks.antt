@@ -1,13 +1,11 @@
 -- One mark more, and the passed that stands for it.
-use Rattle.std.proofs.Common.{◌≡◌, ℕ, zero, suc, ◌+◌, ◌<◌, ◌≤◌, ◌⊎◌, inl, inr, List, [], ◌∷◌, ◌++◌, length, take, get_or, map, refl, ap, sym, ◌∙◌, subst, arith, slice_get, append_assoc, append-nil, length-append}
-use Rattle.std.proofs.lemmas.List.{map-append, take_more, length-map, take-map, take_all}
-use Rattle.std.proofs.lemmas.Option.{get_or_from_slice_get, slice_get_within, slice_get_read, slice_get-get_or}
-use Rattle.std.specs.List.{AllByRecursion}
-use Rattle.std.specs.declared.option.Option.{Option}
-use Rattle.std.specs.declared.option.Option.TheVariants.{Some, None}
+use Rattle.std.proofs.Common.{◌≡◌, ℕ, zero, suc, ◌+◌, ◌<◌, ◌≤◌, List, [], ◌∷◌, ◌++◌, length, take, get_or, refl, ap, sym, ◌∙◌, subst, arith, slice_get, append_assoc, append-nil}
+use Rattle.std.proofs.lemmas.List.{take_more, length-map, take_all}
+use Rattle.std.proofs.lemmas.Option.{get_or_from_slice_get, slice_get_within, slice_get-get_or}
+use Rattle.std.specs.declared.option.Option.TheVariants.{Some}
 use Rattle.symbol_scopes.specs.declared.call.Call.{Call}
 use Rattle.symbol_scopes.specs.declared.call.Call.TheVariants.{Enter}
-use Rattle.symbol_scopes.specs.ScopeMarks.{Name, ScopeMark, Standing, passed, after, along, top, standing, Binding, own, outside, bindings, bindings_of}
+use Rattle.symbol_scopes.specs.ScopeMarks.{Name, ScopeMark, Standing, passed, after, along, top, standing, own}
 use Rattle.symbol_scopes.specs.ScopeMarks.{enters, leaves, defines, uses, labels, leads_to, bad_pack, defines_alias, mentions_alias}
 use Rattle.symbol_scopes.specs.Calls.{mark_of, marks_of, IsNamed, AreNamed}
 use Rattle.symbol_scopes.specs.Slots.{Descend}

@@ -3,7 +3,7 @@
 --   KnowsAliases ns before set    the set has the aliases that these marks define
 --
 -- Inside: no public clause rests on this.
-use Rattle.std.specs.Prelude.{◌≡◌, Bool, true, false, List, map}
+use Rattle.std.specs.Prelude.{◌≡◌, true, false, List, map}
 use Rattle.symbol_scopes.specs.declared.aliases.AliasSet.{AliasSet}
 use Rattle.symbol_scopes.specs.ScopeMarks.{Name, ScopeMark}
 use Rattle.symbol_scopes.specs.Faults.{is_alias_known}

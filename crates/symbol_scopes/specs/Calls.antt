@@ -6,7 +6,7 @@
 --   is_of_blocks call      the call is a label or a successor
 --
 -- Inside: no public clause rests on this.
-use Rattle.std.specs.Prelude.{◌<◌, ℕ, Bool, true, false, List, [], map, length, get_or}
+use Rattle.std.specs.Prelude.{◌<◌, ℕ, Bool, true, false, List, [], map, get_or}
 use Rattle.std.specs.List.{AllByRecursion}
 use Rattle.symbol_scopes.specs.declared.call.Call.{Call}
 use Rattle.symbol_scopes.specs.declared.call.Call.TheVariants as s

@@ -6,7 +6,7 @@
 --   IsListed ns ds n table  the table has these definitions, of n regions
 --
 -- Inside: no public clause rests on this.
-use Rattle.std.specs.Prelude.{◌≡◌, ℕ, ◌+◌, ◌<◌, ◌≤◌, suc, zero, Bool, false, ◌==◌, List, map, length, slice_get, if◌then◌else◌}
+use Rattle.std.specs.Prelude.{◌≡◌, ℕ, ◌<◌, suc, zero, Bool, false, ◌==◌, List, map, length, slice_get, if◌then◌else◌}
 use Rattle.std.specs.declared.option.Option.{Option}
 use Rattle.std.specs.declared.option.Option.TheVariants.{Some, None}
 use Rattle.symbol_scopes.specs.declared.rows.BindingRow.{BindingRow}

@@ -11,13 +11,13 @@
 --   value_meanings ms      what each use means, in the order of the text: a definition's number and
 --                          the number in its pack
 --   block_meanings ms      what each successor means: the number of a block in its own region
-use Rattle.std.specs.Prelude.{ℕ, Bool, ◌&&◌, ◌||◌, ◌==◌, nat_lt, false, List, [], ◌∷◌, bytes_eq, if◌then◌else◌, suc, min}
+use Rattle.std.specs.Prelude.{ℕ, Bool, ◌&&◌, ◌||◌, ◌==◌, nat_lt, false, List, [], ◌∷◌, bytes_eq, if◌then◌else◌, suc}
 use Rattle.std.specs.declared.option.Option.{Option}
 use Rattle.std.specs.declared.option.Option.TheVariants.{Some, None}
 use Rattle.symbol_scopes.specs.declared.slots.FoundBinding.{FoundBinding}
 use Rattle.symbol_scopes.specs.declared.call.NameKind.TheVariants.{Values, Labels}
 use Rattle.symbol_scopes.specs.ScopeMarks.{Name, ScopeMark, Binding, own, along, top, bindings}
-use Rattle.symbol_scopes.specs.ScopeMarks.{enters, leaves, defines, uses, labels, leads_to, bad_pack, defines_alias, mentions_alias}
+use Rattle.symbol_scopes.specs.ScopeMarks.{uses, leads_to}
 
 -- a definition is of the name, and in the region
 abbrev pub is_of : ℕ → Name → Binding → Bool

@@ -1,4 +1,4 @@
-use Rattle.std.proofs.Common.{◌≡◌, Bool, false, ap, sym, ◌∙◌, Some, map}
+use Rattle.std.proofs.Common.{◌≡◌, false, ap, sym, ◌∙◌, Some, map}
 use Rattle.std.specs.List.{list_any}
 use Rattle.symbol_scopes.specs.Calls.{is_of_blocks}
 use Rattle.symbol_scopes.proofs.Unlabelled.{first-unlabelled, block_meanings-unlabelled}

@@ -1,5 +1,4 @@
-use Rattle.std.proofs.Common.{rules, List, ◌≡◌, ◌+◌, length, ap, sym, ◌∙◌, subst, refl, None, Some, map, arith}
-use Rattle.std.proofs.lemmas.List.{length-map}
+use Rattle.std.proofs.Common.{rules, List, subst, refl, arith}
 use Rattle.symbol_scopes.specs.declared.call.NameKind.TheVariants.{Labels}
 use Rattle.first_fault.specs.Firsts.{IsFirst, IsFaultBy}
 use Rattle.symbol_scopes.specs.Faults.{blocks_rule, block_fault}

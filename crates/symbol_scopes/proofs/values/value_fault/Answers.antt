@@ -1,4 +1,4 @@
-use Rattle.std.proofs.Common.{◌≡◌, ap, sym, ◌∙◌}
+use Rattle.std.proofs.Common.{ap, sym, ◌∙◌}
 use Rattle.symbol_scopes.specs.Faults.{fault_if}
 use Rattle.symbol_scopes.specs.Listed.{bindings_in}
 use Rattle.symbol_scopes.proofs.Judging.{define-fault, less-is, less-not}

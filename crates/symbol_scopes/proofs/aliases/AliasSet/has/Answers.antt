@@ -1,4 +1,4 @@
-use Rattle.std.proofs.Common.{◌≡◌, ap, sym, ◌∙◌, true, false}
+use Rattle.std.proofs.Common.{ap, sym, ◌∙◌, true, false}
 use Rattle.symbol_scopes.specs.Faults.{is_alias_known}
 use Rattle.symbol_scopes.specs.Calls.{numbered_name}
 use Rattle.symbol_scopes.proofs.KnownAliases.{bit-read}

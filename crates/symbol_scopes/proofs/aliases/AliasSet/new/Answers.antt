@@ -1,4 +1,4 @@
-use Rattle.std.proofs.Common.{refl, ◌∙◌, sym, ap, length, replicate, ◌≡◌, rules, false}
+use Rattle.std.proofs.Common.{◌∙◌, ap, replicate, rules, false}
 use Rattle.symbol_scopes.proofs.Lists.{map-one}
 use Rattle.symbol_scopes.proofs.aliases.AliasSet.new.Goals as goal
 

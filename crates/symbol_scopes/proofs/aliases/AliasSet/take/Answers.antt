@@ -1,4 +1,4 @@
-use Rattle.std.proofs.Common.{◌≡◌, ◌<◌, length, refl, subst}
+use Rattle.std.proofs.Common.{length, refl, subst}
 use Rattle.symbol_scopes.specs.Calls.{IsNamed}
 use Rattle.symbol_scopes.proofs.KnownAliases.{knows-other, knows-type, knows-attribute}
 use Rattle.symbol_scopes.proofs.aliases.AliasSet.take.Goals as goal

@@ -1,1 +1,0 @@
-use Rattle.symbol_scopes.proofs.names.Names.number.Goals as goal

@@ -1,5 +1,4 @@
-use Rattle.std.proofs.Common.{◌≡◌, ℕ, Some, slice_get, sym, ◌∙◌, ap, subst, map}
-use Rattle.std.specs.Cmp.Lexicographic.{pointwise}
+use Rattle.std.proofs.Common.{Some, slice_get, sym, ◌∙◌, ap}
 use Rattle.symbol_scopes.proofs.Lists.{position-there, get-map, same-name}
 use Rattle.symbol_scopes.proofs.names.Names.place.Goals as goal
 

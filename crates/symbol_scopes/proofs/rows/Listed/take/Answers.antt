@@ -1,7 +1,7 @@
-use Rattle.std.proofs.Common.{◌≡◌, ◌+◌, ◌++◌, ◌<◌, ◌∷◌, [], length, ap, sym, ◌∙◌, subst, refl}
-use Rattle.symbol_scopes.specs.ScopeMarks.{bindings_of, Binding}
+use Rattle.std.proofs.Common.{◌+◌, ◌++◌, ◌<◌, length, ap, sym, ◌∙◌, subst, refl}
+use Rattle.symbol_scopes.specs.ScopeMarks.{bindings_of}
 use Rattle.symbol_scopes.specs.Calls.{mark_of, IsNamed}
-use Rattle.symbol_scopes.specs.Listed.{IsListed, bindings_in}
+use Rattle.symbol_scopes.specs.Listed.{bindings_in}
 use Rattle.symbol_scopes.proofs.Listing.{listed-same, none-more, enters-none, binding-value, binding-label}
 use Rattle.symbol_scopes.proofs.rows.Listed.take.Goals as goal
 

@@ -1,9 +1,9 @@
-use Rattle.std.proofs.Common.{◌≡◌, ℕ, ◌+◌, ◌<◌, ◌≤◌, ◌++◌, ◌∷◌, [], length, inl, refl, ap, sym, ◌∙◌, subst, arith}
+use Rattle.std.proofs.Common.{◌++◌, ◌∷◌, [], ap, ◌∙◌, arith}
 use Rattle.std.proofs.lemmas.Option.{get_or_from_slice_get, slice_get_within}
 use Rattle.symbol_scopes.specs.ScopeMarks as mark
 use Rattle.symbol_scopes.specs.declared.call.Call.TheVariants as s
 use Rattle.symbol_scopes.specs.Calls.{numbered_name}
-use Rattle.symbol_scopes.proofs.Noting.{on-err, same-marks, same-kept, more-marks, more-kept, counts-small}
+use Rattle.symbol_scopes.proofs.Noting.{on-err, same-marks, same-kept, more-marks, more-kept}
 use Rattle.symbol_scopes.proofs.scopes.Scopes.define_block.Goals as goal
 
 pub invariant_of-self-in_err-push : goal.invariant_of-self-in_err-push

@@ -1,8 +1,6 @@
-use Rattle.std.proofs.Common.{◌≡◌, ℕ, ◌+◌, ◌<◌, ◌≤◌, ◌++◌, ◌∷◌, [], length, inl, refl, ap, sym, ◌∙◌, subst, arith}
-use Rattle.std.proofs.lemmas.Option.{get_or_from_slice_get, slice_get_within}
-use Rattle.symbol_scopes.specs.ScopeMarks as mark
+use Rattle.std.proofs.Common.{[], inl, refl, arith}
 use Rattle.symbol_scopes.specs.declared.call.Call.TheVariants as s
-use Rattle.symbol_scopes.proofs.Noting.{on-err, same-marks, same-kept, more-marks, more-kept, counts-small}
+use Rattle.symbol_scopes.proofs.Noting.{more-kept}
 use Rattle.symbol_scopes.proofs.scopes.Scopes.leave.Goals as goal
 
 pub invariant_of-self-2 : goal.invariant_of-self-2

@@ -1,10 +1,9 @@
-use Rattle.std.proofs.Common.{◌≡◌, ℕ, suc, ◌<◌, ◌∷◌, length, sym, ◌∙◌, ap, subst, refl, arith, Some, map, get_or, min}
-use Rattle.symbol_scopes.specs.declared.slots.NameSlot.{NameSlot}
-use Rattle.symbol_scopes.specs.ScopeMarks.{own, behind_own}
+use Rattle.std.proofs.Common.{◌≡◌, suc, ◌<◌, ◌∷◌, length, sym, ◌∙◌, ap, subst, refl}
+use Rattle.symbol_scopes.specs.ScopeMarks.{behind_own}
 use Rattle.symbol_scopes.specs.Slots.{AreSlots, Descend, slot_of, IsOuterKept, outer_of}
 use Rattle.symbol_scopes.specs.Listed.{bindings_in, binding_of}
 use Rattle.symbol_scopes.proofs.Finds.{bound}
-use Rattle.symbol_scopes.proofs.Turns.{Begins, slot_from, begins-start, begins-end, begins-step, slot-kept, outside-is, visited, own-within, head-is, slot-read, name-within, written, falls, round-parts, descend-behind}
+use Rattle.symbol_scopes.proofs.Turns.{Begins, slot_from, begins-start, begins-end, begins-step, slot-kept, outside-is, visited, head-is, slot-read, name-within, written, falls, round-parts, descend-behind}
 use Rattle.symbol_scopes.proofs.slots.NameSlots.enter.Goals as goal
 
 pub loop-at-init : goal.loop-at-init

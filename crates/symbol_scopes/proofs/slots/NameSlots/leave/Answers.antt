@@ -1,11 +1,10 @@
-use Rattle.std.proofs.Common.{◌≡◌, ℕ, suc, ◌<◌, ◌∷◌, length, sym, ◌∙◌, ap, subst, refl, arith, Some, map, get_or, min}
-use Rattle.symbol_scopes.specs.declared.slots.NameSlot.{NameSlot}
-use Rattle.symbol_scopes.specs.ScopeMarks.{own, behind_own}
-use Rattle.symbol_scopes.specs.Slots.{AreSlots, Descend, slot_of, IsOuterKept, outer_of}
+use Rattle.std.proofs.Common.{◌≡◌, suc, ◌<◌, ◌∷◌, length, sym, ◌∙◌, ap, subst, refl, arith}
+use Rattle.symbol_scopes.specs.ScopeMarks.{behind_own}
+use Rattle.symbol_scopes.specs.Slots.{AreSlots}
 use Rattle.symbol_scopes.specs.Listed.{bindings_in, binding_of}
 use Rattle.symbol_scopes.proofs.Finds.{bound}
 use Rattle.std.proofs.lemmas.Option.{slice_get_read}
-use Rattle.symbol_scopes.proofs.Turns.{Ends, left, ends-start, ends-end, ends-step, visited, own-within, head-is, slot-read, name-within, falls, round-parts, descend-behind}
+use Rattle.symbol_scopes.proofs.Turns.{Ends, left, ends-start, ends-end, ends-step, visited, head-is, name-within, falls, round-parts}
 use Rattle.symbol_scopes.proofs.Finds.{from}
 use Rattle.symbol_scopes.proofs.slots.NameSlots.leave.Goals as goal
 

@@ -1,4 +1,4 @@
-use Rattle.std.proofs.Common.{refl, ◌∙◌, sym, ap, length, replicate, ◌≡◌, rules, None, ℕ}
+use Rattle.std.proofs.Common.{◌∙◌, sym, ap, length, replicate, ◌≡◌, rules, None, ℕ}
 use Rattle.std.proofs.lemmas.List.{length-map, length-replicate}
 use Rattle.symbol_scopes.specs.declared.slots.NameSlot.{NameSlot}
 use Rattle.symbol_scopes.specs.Listed.{bindings_in, binding_of}

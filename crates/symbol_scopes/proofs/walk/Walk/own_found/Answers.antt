@@ -1,6 +1,5 @@
-use Rattle.std.proofs.Common.{◌≡◌, ap, sym, ◌∙◌}
+use Rattle.std.proofs.Common.{ap, ◌∙◌}
 use Rattle.symbol_scopes.specs.Listed.{bindings_in}
-use Rattle.symbol_scopes.specs.ScopeMarks.{own}
 use Rattle.symbol_scopes.specs.Meanings.{meant}
 use Rattle.symbol_scopes.specs.Slots.{in_own}
 use Rattle.symbol_scopes.specs.Calls.{numbered_name}

@@ -1,5 +1,5 @@
-use Rattle.std.proofs.Common.{arith, ap, ◌<◌, ◌≡◌, ◌+◌, length, subst}
-use Rattle.symbol_scopes.specs.ScopeMarks.{own, passed}
+use Rattle.std.proofs.Common.{arith, ◌<◌, ◌+◌, length, subst}
+use Rattle.symbol_scopes.specs.ScopeMarks.{passed}
 use Rattle.symbol_scopes.specs.Calls.{mark_of}
 use Rattle.symbol_scopes.proofs.Walks.{own-below}
 use Rattle.symbol_scopes.proofs.walk.Walk.take.Goals as goal
