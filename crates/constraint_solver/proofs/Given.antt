@@ -1,6 +1,6 @@
 -- The values that variables have by the ids that were given to them.
-use Rattle.std.proofs.Common.{◌≡◌, ◌∙◌, ◌↔◌, ℕ, ◌<◌, ◌⊎◌, inl, inr, List, length}
-use Rattle.std.proofs.Common.{Bool, true, false, IsTrue, true≢false}
+use Rattle.std.proofs.Common.{◌≡◌, ◌∙◌, ℕ, ◌<◌, ◌⊎◌, inl, inr, List, length}
+use Rattle.std.proofs.Common.{Bool, true, false, true≢false}
 use Rattle.std.proofs.Common.{set, replicate, zero, suc}
 use Rattle.std.proofs.Common.{refl, ap, sym, subst, arith, get_or}
 use Rattle.std.proofs.lemmas.Bool.{cases_eq}
@@ -181,21 +181,6 @@ Forces-false r = record {
   forced = λ yes. absurd (true≢false (sym yes));
   known = λ yes. absurd (true≢false (sym yes));
   refuted = λ no. r;
-}
-
--- a test of what doesn't speak of variables
-pub Forces-test : {n : ℕ} {values : List Value} {ids : List (Option ValueId)} {took : Bool}
-    {P : Assignment → Type 0} → AreKnownIds (length values) ids
-    → ((a : Assignment) → IsTrue took ↔ P a) → Forces n values ids ids took P
-Forces-test {values = values} {ids = ids} known says = record {
-  forced = λ yes. record {
-    grown = λ v x has. has;
-    holds = (says (assigned values ids)).0 yes;
-    least = λ a under p. under;
-    above = λ v x from has. has;
-  };
-  known = λ yes. known;
-  refuted = λ no a under p. true≢false (sym ((says a).1 p) ∙ no);
 }
 
 -- another property that the same assignments have

@@ -1,6 +1,6 @@
 //! Giving values to variables.
 
-ghost use Rattle.std.specs.Prelude.{◌≡◌, ℕ, ◌<◌, ◌≤◌, length, None, IsTrue, false, slice_index_or};
+ghost use Rattle.std.specs.Prelude.{◌≡◌, ℕ, ◌<◌, ◌≤◌, length, None, false, slice_index_or};
 ghost use Rattle.std.specs.List.{AllByRecursion};
 ghost use Rattle.attr_value.specs.Ids.{at, kids_at, AreKnown};
 ghost use Rattle.attr_value.specs.Values.{list_of};

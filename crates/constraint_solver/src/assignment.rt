@@ -1,6 +1,6 @@
 //! Assignments that the search finds.
 
-ghost use Rattle.std.specs.Prelude.{◌≡◌, ◌≤◌, [], None, length, take, slice_index_or};
+ghost use Rattle.std.specs.Prelude.{◌≡◌, ◌≤◌, None, length, take, slice_index_or};
 
 use arrayvec::ArrayVec;
 use attr_value::ValueId;

@@ -5,8 +5,8 @@
 #![tactic(auto)]
 
 ghost use Rattle.std.specs.Prelude.{◌≡◌, ◌≤◌, ◌-◌, ◌↔◌, ℕ, List, IsTrue, IfSome, IsSomeAnd};
-ghost use Rattle.std.specs.Prelude.{length, sum, map, pos, option_copied, nat_lt, true};
-ghost use Rattle.dialect_defs.specs.Segments.{FitEach, Segments, needs_sizes};
+ghost use Rattle.std.specs.Prelude.{length, sum, map, pos, option_copied, true};
+ghost use Rattle.dialect_defs.specs.Segments.{FitEach, Segments};
 ghost use Rattle.segment_match.specs.Spread.{flexible, spread};
 
 use arrayvec::ArrayVec;

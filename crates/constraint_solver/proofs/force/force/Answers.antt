@@ -1,10 +1,9 @@
-use Rattle.std.proofs.Common.{◌∙◌, sym, ap, subst, rules}
+use Rattle.std.proofs.Common.{◌∙◌, sym, ap, subst}
 use Rattle.attr_value.specs.Ids.{at}
 use Rattle.dialect_defs.specs.declared.body.Constraint.TheVariants.{AllOf}
 use Rattle.dialect_defs.specs.Assignments.{Keeps}
 use Rattle.native_predicate.specs.Lists.{tests}
 use Rattle.constraint_solver.specs.Search.{Forces}
-use Rattle.constraint_solver.proofs.Given.{Forces-test}
 use Rattle.constraint_solver.proofs.force.force.Goals as goal
 
 pub returns-in-AllOf : goal.returns-in-AllOf

@@ -1,4 +1,4 @@
-use Rattle.std.proofs.Common.{◌∙◌, sym, refl, true≢false, rules}
+use Rattle.std.proofs.Common.{sym, refl, true≢false}
 use Rattle.attr_value.specs.Ids.{at}
 use Rattle.native_predicate.specs.Lists.{tests}
 use Rattle.constraint_solver.specs.Roots.{assigned}
