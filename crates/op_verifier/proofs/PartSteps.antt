@@ -1,6 +1,6 @@
 -- What entries ask, part by part.
-use Rattle.std.proofs.Common.{◌≡◌, ℕ, suc, ◌+◌, ◌-◌, Bool, List, []}
-use Rattle.std.proofs.Common.{◌∷◌, length, sum, take, drop, slice_get, refl, ap, sym}
+use Rattle.std.proofs.Common.{◌≡◌, ℕ, ◌+◌, ◌-◌, Bool, List, []}
+use Rattle.std.proofs.Common.{◌∷◌, length, sum, take, drop, slice_get, ap, sym}
 use Rattle.std.proofs.Common.{◌∙◌, subst, arith, Option, Some, None, ℤ}
 use Rattle.std.proofs.lemmas.List.{drop-drop}
 use Rattle.std.proofs.lemmas.List.Sums.{sum_by-cons}

@@ -1,9 +1,9 @@
 //! What operands, results and attributes ask of variables.
 
-ghost use Rattle.std.specs.Prelude.{◌≡◌, ◌<◌, ◌≤◌, ◌-◌, ◌^◌, length, IsTrue, false};
+ghost use Rattle.std.specs.Prelude.{◌≡◌, ◌<◌, ◌≤◌, ◌-◌, ◌^◌, length, false};
 ghost use Rattle.std.specs.Prelude.{take, drop, sum, option_copied};
 ghost use Rattle.std.specs.List.{AllByRecursion};
-ghost use Rattle.attr_value.specs.Ids.{at, AreKnown};
+ghost use Rattle.attr_value.specs.Ids.{AreKnown};
 ghost use Rattle.dialect_defs.specs.Assignments.{Has};
 ghost use Rattle.dialect_defs.specs.Operations.{EntriesHave, AttrHas, attr_at};
 ghost use Rattle.dialect_defs.specs.Segments.{parts};

@@ -1,6 +1,6 @@
 //! What an operation asks of the variables of its definition's body.
 
-ghost use Rattle.std.specs.Prelude.{◌≡◌, ◌<◌, ◌≤◌, length, IsTrue, false};
+ghost use Rattle.std.specs.Prelude.{◌<◌, ◌≤◌, length, false};
 ghost use Rattle.std.specs.Option.{ForSome};
 ghost use Rattle.attr_value.specs.Ids.{AreKnown};
 ghost use Rattle.dialect_defs.specs.Operations.{attr_at, given_sizes};

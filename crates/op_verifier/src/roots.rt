@@ -1,6 +1,6 @@
 //! The values that are asked of variables, as a list.
 
-ghost use Rattle.std.specs.Prelude.{◌≡◌, ◌<◌, ◌≤◌, ◌+◌, ◌++◌, [], length, take};
+ghost use Rattle.std.specs.Prelude.{◌≡◌, ◌<◌, ◌≤◌, ◌+◌, ◌++◌, length, take};
 ghost use Rattle.op_verifier.specs.Parts.{root_of, roots_of};
 
 use crate::wanted::Wanted;

@@ -1,9 +1,9 @@
 //! The values that an operation asks of the variables of its definition's body.
 
-ghost use Rattle.std.specs.Prelude.{◌≡◌, ◌<◌, ◌≤◌, length, map, IsTrue, true, false, None};
+ghost use Rattle.std.specs.Prelude.{◌≡◌, ◌<◌, ◌≤◌, length, true, None};
 ghost use Rattle.std.specs.List.{AllByRecursion};
-ghost use Rattle.attr_value.specs.Ids.{at, AreKnown};
-ghost use Rattle.dialect_defs.specs.Assignments.{Has, HaveEach};
+ghost use Rattle.attr_value.specs.Ids.{at};
+ghost use Rattle.dialect_defs.specs.Assignments.{Has};
 ghost use Rattle.constraint_solver.specs.Roots.{AreKnownIds};
 ghost use Rattle.op_verifier.specs.Asked.{Asked};
 

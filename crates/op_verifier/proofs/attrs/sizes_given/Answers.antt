@@ -1,7 +1,5 @@
-use Rattle.std.proofs.Common.{◌∙◌, ap, sym, option_map, option_copied}
-use Rattle.attr_value.specs.Ids.{at}
+use Rattle.std.proofs.Common.{◌∙◌, ap, sym, option_copied}
 use Rattle.attr_value.specs.Values.{Value}
-use Rattle.attr_value.specs.declared.head.ValueId.{ValueId}
 use Rattle.dialect_defs.specs.Operations.{given_sizes, sizes_of_head}
 use Rattle.op_verifier.proofs.Found.{attr_at-attrs_seen, key-known, value_of}
 use Rattle.op_verifier.proofs.attrs.sizes_given.Goals as goal

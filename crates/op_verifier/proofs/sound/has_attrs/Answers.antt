@@ -1,5 +1,4 @@
-use Rattle.std.proofs.Common.{◌<◌, refl, arith, length, IsTrue, true, false, sym, true≢false}
-use Rattle.std.specs.List.{AllByRecursion}
+use Rattle.std.proofs.Common.{◌<◌, refl, arith, length, true, false, sym, true≢false}
 use Rattle.attr_value.specs.Ids.{AreKnown}
 use Rattle.ir_store.specs.Numbering.{ops_in}
 use Rattle.op_verifier.specs.Seen.{Site}
