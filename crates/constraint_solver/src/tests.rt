@@ -7,14 +7,14 @@ ghost use Rattle.constraint_solver.specs.Definitions.{AreSoundDefs};
 
 use super::*;
 use attr_uniquer::Uniquer;
-use attr_value::{BaseKind, FloatKind, Head, IntKind, List, Text, ValueId};
+use attr_value::{FloatKind, Head, IntKind, List, Text, ValueId};
 use dialect_defs::{Arity, BaseRef, Body, Constraint, Entry, TypeDef, VarId};
 use native_predicate::{NativePredicate, Natives};
 use std::alloc::{AllocError, Global};
 use std::process::Abort;
 use std::test::Fail;
 
-// What `solve` gives, where the body and the roots are such as it takes.
+/// What `solve` gives, where the body and the roots are such as it takes.
 fn solved(
     rt: &impl Abort,
     u: &Uniquer,
@@ -28,7 +28,7 @@ fn solved(
     solve(u, natives, body, roots)
 }
 
-// A body of three constraints.
+/// A body of three constraints.
 fn body(
     alloc: Global,
     first: Constraint,
@@ -50,7 +50,7 @@ fn all_of(alloc: Global, members: &[VarId]) -> Result<Constraint, AllocError> {
     Ok(Constraint::AllOf(List::from_slice(alloc, members)?))
 }
 
-// The constraint of !t.pr<..>.
+/// The constraint of !t.pr<..>.
 fn pair_of(alloc: Global, parts: &[VarId]) -> Result<Constraint, AllocError> {
     Ok(Constraint::Parametric {
         is_type: true,
@@ -66,7 +66,7 @@ fn dialect_type(alloc: Global, name: &[u8]) -> Result<Head, AllocError> {
     })
 }
 
-// The signless integer type of a width.
+/// The signless integer type of a width.
 fn integer(u: &mut Uniquer, width: u32) -> Result<ValueId, AllocError>
     ensures known { IfOk result (λ id. id.0 < length u.new) }
     ensures later { length u.old ≤ length u.new }
@@ -74,7 +74,7 @@ fn integer(u: &mut Uniquer, width: u32) -> Result<ValueId, AllocError>
     u.intern(Head::Int(IntKind::Signless(width)), &[])
 }
 
-// !t.pr of two integer types.
+/// !t.pr of two integer types.
 fn pair(alloc: Global, u: &mut Uniquer, l: u32, r: u32) -> Result<ValueId, AllocError> {
     let l = integer(u, l)?;
     let r = integer(u, r)?;
@@ -82,7 +82,7 @@ fn pair(alloc: Global, u: &mut Uniquer, l: u32, r: u32) -> Result<ValueId, Alloc
     u.intern(head, &[l, r])
 }
 
-// The body of `pick`: %5 is !t.pr<%0, %1> or !t.pr<%2, %0>.
+/// The body of `pick`: %5 is !t.pr<%0, %1> or !t.pr<%2, %0>.
 fn pick(alloc: Global) -> Result<Body, AllocError> {
     let mut vars = List::new(alloc);
     for _ in 0..3u32 {
@@ -94,8 +94,8 @@ fn pick(alloc: Global) -> Result<Body, AllocError> {
     Ok(Body { vars })
 }
 
-// What `pick` gives for an operand of !t.pr<i32, i64> and one of an integer type. i32 has the id
-// 0, i64 has 1, and the pair has 2.
+/// What `pick` gives for an operand of !t.pr<i32, i64> and one of an integer type. i32 has the id
+/// 0, i64 has 1, and the pair has 2.
 fn picked(rt: &impl Abort, alloc: Global, width: u32) -> Result<Option<Assignment>, AllocError> {
     let mut u = Uniquer::new(alloc);
     let x = pair(alloc, &mut u, 32, 64)?;
@@ -121,7 +121,7 @@ fn no_member_fits(rt: HostRuntime) -> Result<(), Fail> {
     Ok(())
 }
 
-// Whether %1, which is !t.pr<%0, %0>, and %2, which is %0, may have these types.
+/// Whether %1, which is !t.pr<%0, %0>, and %2, which is %0, may have these types.
 fn shares(rt: &impl Abort, alloc: Global, l: u32, r: u32, one: u32) -> Result<bool, AllocError> {
     let mut u = Uniquer::new(alloc);
     let twice = pair_of(alloc, &[VarId(0), VarId(0)])?;
@@ -141,7 +141,7 @@ fn a_variable_has_one_value(rt: HostRuntime) -> Result<(), Fail> {
     Ok(())
 }
 
-// Whether a variable of this constraint may have a value of this head.
+/// Whether a variable of this constraint may have a value of this head.
 fn takes(
     rt: &impl Abort,
     alloc: Global,
@@ -155,19 +155,6 @@ fn takes(
     vars.push(constraint)?;
     let body = Body { vars };
     Ok(solved(rt, &u, natives, &body, &[(VarId(0), id)]).is_some())
-}
-
-#[test]
-fn a_value_is_of_a_builtin_kind(rt: HostRuntime) -> Result<(), Fail> {
-    let natives = Natives::new(Vec::new(rt.alloc()));
-    for (kind, want) in [(IntKind::Signless(8), true), (IntKind::Index, false)] {
-        let base = Constraint::Base(BaseRef::Builtin(BaseKind::Integer));
-        assert_eq!(rt;
-            takes(&rt, rt.alloc(), &natives, base, Head::Int(kind))?,
-            want
-        );
-    }
-    Ok(())
 }
 
 #[test]
@@ -186,22 +173,7 @@ fn a_value_is_of_a_dialect_s_kind(rt: HostRuntime) -> Result<(), Fail> {
     Ok(())
 }
 
-#[test]
-fn a_constant_is_a_value_of_the_table(rt: HostRuntime) -> Result<(), Fail> {
-    let natives = Natives::new(Vec::new(rt.alloc()));
-    assert!(rt;
-        takes(
-            &rt,
-            rt.alloc(),
-            &natives,
-            Constraint::Is(ValueId(0)),
-            Head::Unit
-        )?
-    );
-    Ok(())
-}
-
-// A predicate that is true of no value.
+/// A predicate that is true of no value.
 #[derive(Drop)]
 struct IsNothing;
 
@@ -231,7 +203,7 @@ fn a_predicate_is_asked(rt: HostRuntime) -> Result<(), Fail> {
     Ok(())
 }
 
-// 16 choices of two members each, and a constant, which is settled last.
+/// 16 choices of two members each, and a constant, which is settled last.
 fn choices(alloc: Global) -> Result<Body, AllocError> {
     let mut vars = List::new(alloc);
     vars.push(Constraint::Is(ValueId(0)))?;
@@ -243,7 +215,7 @@ fn choices(alloc: Global) -> Result<Body, AllocError> {
     Ok(Body { vars })
 }
 
-// Whether the choices are met, where each is that of one value and the constant is to be another.
+/// Whether the choices are met, where each is that of one value and the constant is to be another.
 fn walks(rt: &impl Abort, alloc: Global, constant: ValueId) -> Result<bool, AllocError> {
     let mut u = Uniquer::new(alloc);
     let _zeroth = integer(&mut u, 32)?;
@@ -265,35 +237,7 @@ fn all_choices_are_walked_and_refused_at_the_last(rt: HostRuntime) -> Result<(),
     Ok(())
 }
 
-// Whether a body is sound over 3 values and 1 predicate, with this constraint for %1.
-fn is_sound(alloc: Global, constraint: Constraint) -> Result<bool, AllocError> {
-    let body = body(alloc, Constraint::Any, constraint, Constraint::Any)?;
-    Ok(is_sound_body(&body, 3, 1))
-}
-
-#[test]
-fn a_variable_names_earlier_ones_alone(rt: HostRuntime) -> Result<(), Fail> {
-    let alloc = rt.alloc();
-    for (v, want) in [(0, true), (1, false), (2, false)] {
-        let vars = [VarId(0), VarId(v)];
-        assert_eq!(rt; is_sound(alloc, any_of(alloc, &vars)?)?, want);
-        assert_eq!(rt; is_sound(alloc, all_of(alloc, &vars)?)?, want);
-        assert_eq!(rt; is_sound(alloc, pair_of(alloc, &vars)?)?, want);
-    }
-    Ok(())
-}
-
-#[test]
-fn constants_and_predicates_are_there(rt: HostRuntime) -> Result<(), Fail> {
-    let alloc = rt.alloc();
-    for (i, value, predicate) in [(0, true, true), (1, true, false), (3, false, false)] {
-        assert_eq!(rt; is_sound(alloc, Constraint::Is(ValueId(i)))?, value);
-        assert_eq!(rt; is_sound(alloc, Constraint::Native(i))?, predicate);
-    }
-    Ok(())
-}
-
-// A definition of the type `cmath.complex`, whose one parameter is one of two values.
+/// A definition of the type `cmath.complex`, whose one parameter is one of two values.
 fn complex(alloc: Global, first: ValueId, second: ValueId) -> Result<TypeDef, AllocError> {
     let either = any_of(alloc, &[VarId(0), VarId(1)])?;
     let body = body(alloc, Constraint::Is(first), Constraint::Is(second), either)?;
@@ -312,7 +256,7 @@ fn complex(alloc: Global, first: ValueId, second: ValueId) -> Result<TypeDef, Al
     })
 }
 
-// Whether a value is good, where it nests at most `deep`: its kids are judged first.
+/// Whether a value is good, where it nests at most `deep`: its kids are judged first.
 fn is_good(types: &[TypeDef], natives: &Natives, u: &Uniquer, id: ValueId, deep: usize) -> bool
     requires types { AreSoundDefs (length u.now) (count natives.now) types.now }
     requires id { id.0 < length u.now }
@@ -330,8 +274,8 @@ fn is_good(types: &[TypeDef], natives: &Natives, u: &Uniquer, id: ValueId, deep:
     good_head(types, natives, u, id)
 }
 
-// Whether !name<kid> is good. Of `cmath.complex` there are two definitions: its parameter is f64 by
-// the first, and f32 or f64 by the second. f32 has the id 0, and f64 has 1.
+/// Whether !name<kid> is good. Of `cmath.complex` there are two definitions: its parameter is f64
+/// by the first, and f32 or f64 by the second. f32 has the id 0, and f64 has 1.
 fn is_instance(rt: &impl Abort, alloc: Global, name: &[u8], kid: Head) -> Result<bool, AllocError> {
     let mut u = Uniquer::new(alloc);
     let _f32 = u.intern(Head::Float(FloatKind::F32), &[])?;

@@ -29,6 +29,26 @@ fn verified(
     verify(defs, natives, u, store)
 }
 
+/// What `meets` says, where it takes the operation and the types of its operands.
+fn met(
+    rt: &impl Abort,
+    defs: &[OpDef],
+    natives: &Natives,
+    u: &Uniquer,
+    store: &Store,
+    op: OpId,
+    operands: &[ValueId],
+) -> bool {
+    assert!(rt; are_sound_ops(defs, u.len(), natives.len()));
+    assert!(rt; has_ids(store, u.len()));
+    assert!(rt; are_known(u.len(), operands));
+    assert!(rt; op.0 < store.op_count());
+    let row = store.op(op);
+    assert!(rt; row.def < defs.len());
+    assert!(rt; row.operands.as_slice().len() == operands.len());
+    meets(defs, natives, u, store, op, operands)
+}
+
 /// A definition of two variables, of which all is allowed, without entries.
 fn definition(alloc: Global) -> Result<OpDef, AllocError> {
     let mut vars = List::new(alloc);
@@ -98,31 +118,77 @@ fn row_with(
     })
 }
 
+/// A list of one definition.
+fn listed(alloc: Global, def: OpDef) -> Result<List<OpDef>, AllocError> {
+    let mut defs = List::new(alloc);
+    defs.push(def)?;
+    Ok(defs)
+}
+
+/// A definition of at most one operand, and of any number of results of its type.
+fn of_one_type(alloc: Global) -> Result<List<OpDef>, AllocError> {
+    let mut def = definition(alloc)?;
+    def.operands.push(entry(Arity::Optional, 0))?;
+    def.results.push(entry(Arity::Variadic, 0))?;
+    listed(alloc, def)
+}
+
+/// The signless integer type of a width.
+fn integer(u: &mut Uniquer, width: u32) -> Result<ValueId, AllocError> {
+    u.intern(Head::Int(IntKind::Signless(width)), &[])
+}
+
 #[test]
 fn first_fault_is_named_with_its_place(rt: HostRuntime) -> Result<(), Fail> {
     let alloc = rt.alloc();
     let mut u = Uniquer::new(alloc);
-    let i32 = u.intern(Head::Int(IntKind::Signless(32)), &[])?;
-    let i64 = u.intern(Head::Int(IntKind::Signless(64)), &[])?;
+    let i32 = integer(&mut u, 32)?;
+    let i64 = integer(&mut u, 64)?;
     let natives = Natives::new(Vec::new(alloc));
-    // one operand, and any number of results of its type
-    let mut def = definition(alloc)?;
-    def.operands.push(entry(Arity::Optional, 0))?;
-    def.results.push(entry(Arity::Variadic, 0))?;
-    let mut defs = List::new(alloc);
-    defs.push(def)?;
-    let defs = defs.as_slice();
+    let defs = of_one_type(alloc)?;
     let mut store = Store::new(alloc);
     store.add_op(None, row(alloc, 10, &[], &[i32, i32])?)?;
     store.add_op(None, row(alloc, 20, &[1], &[i32])?)?;
-    assert_eq!(rt; verified(&rt, defs, &natives, &u, &store), Ok(()));
+    assert_eq!(rt;
+        verified(&rt, defs.as_slice(), &natives, &u, &store),
+        Ok(())
+    );
     store.add_op(None, row(alloc, 30, &[1], &[i32, i64])?)?;
     store.add_op(None, row(alloc, 40, &[1, 1], &[])?)?;
     let fault = OpPlace {
         op: OpId(2),
         place: 30,
     };
-    assert_eq!(rt; verified(&rt, defs, &natives, &u, &store), Err(fault));
+    assert_eq!(rt;
+        verified(&rt, defs.as_slice(), &natives, &u, &store),
+        Err(fault)
+    );
+    Ok(())
+}
+
+/// Whether an operation with an operand and a result of 32 bits, which are to be of one type, meets
+/// its definition where its operand is given an integer type of this width.
+fn meets_with(
+    rt: &impl Abort,
+    alloc: Global,
+    natives: &Natives,
+    width: u32,
+) -> Result<bool, AllocError> {
+    let defs = of_one_type(alloc)?;
+    let mut u = Uniquer::new(alloc);
+    let i32 = integer(&mut u, 32)?;
+    let given = integer(&mut u, width)?;
+    let mut store = Store::new(alloc);
+    store.add_op(None, row(alloc, 10, &[0], &[i32])?)?;
+    Ok(met(rt, defs.as_slice(), natives, &u, &store, OpId(0), &[given]))
+}
+
+#[test]
+fn operands_have_the_types_that_are_given(rt: HostRuntime) -> Result<(), Fail> {
+    let natives = Natives::new(Vec::new(rt.alloc()));
+    for (width, want) in [(32, true), (64, false)] {
+        assert_eq!(rt; meets_with(&rt, rt.alloc(), &natives, width)?, want);
+    }
     Ok(())
 }
 
@@ -143,7 +209,7 @@ fn fall_into_segments(
     items: &[i64],
 ) -> Result<bool, AllocError> {
     let mut u = Uniquer::new(alloc);
-    let i32 = u.intern(Head::Int(IntKind::Signless(32)), &[])?;
+    let i32 = integer(&mut u, 32)?;
     let sizes = dense(alloc, &mut u, width, items)?;
     let mut store = Store::new(alloc);
     store.add_op(None, row_with(alloc, &[0, 0], key, sizes)?)?;
@@ -171,8 +237,7 @@ fn sizes_of_segments_come_from_an_attribute(rt: HostRuntime) -> Result<(), Fail>
     let mut def = definition(alloc)?;
     def.operands.push(entry(Arity::Variadic, 0))?;
     def.operands.push(entry(Arity::Variadic, 1))?;
-    let mut defs = List::new(alloc);
-    defs.push(def)?;
+    let defs = listed(alloc, def)?;
     for (key, width, items, meets) in SIZES {
         let found = fall_into_segments(
             &rt,
@@ -188,6 +253,23 @@ fn sizes_of_segments_come_from_an_attribute(rt: HostRuntime) -> Result<(), Fail>
     Ok(())
 }
 
+/// A definition of an attribute `a`, which is the value of this id.
+fn of_one_attribute(
+    alloc: Global,
+    optional: bool,
+    unit: ValueId,
+) -> Result<List<OpDef>, AllocError> {
+    let mut def = definition(alloc)?;
+    def.body.vars.push(Constraint::Is(unit))?;
+    def.attrs.push(AttrEntry {
+        name: Text::from_slice(alloc, b"a")?,
+        optional,
+        unit: true,
+        var: VarId(2),
+    })?;
+    listed(alloc, def)
+}
+
 /// Whether an operation with the unit attribute, or with a string, at a key meets a definition of
 /// an attribute `a` that is the unit attribute.
 fn has_unit(
@@ -201,16 +283,7 @@ fn has_unit(
     let mut u = Uniquer::new(alloc);
     let unit = u.intern(Head::Unit, &[])?;
     let other = u.intern(Head::Str(Text::from_slice(alloc, b"x")?), &[])?;
-    let mut def = definition(alloc)?;
-    def.body.vars.push(Constraint::Is(unit))?;
-    def.attrs.push(AttrEntry {
-        name: Text::from_slice(alloc, b"a")?,
-        optional,
-        unit: true,
-        var: VarId(2),
-    })?;
-    let mut defs = List::new(alloc);
-    defs.push(def)?;
+    let defs = of_one_attribute(alloc, optional, unit)?;
     let mut store = Store::new(alloc);
     let value = if is_unit { unit } else { other };
     store.add_op(None, row_with(alloc, &[], key, value)?)?;
@@ -263,6 +336,34 @@ fn region_with(
     Ok(())
 }
 
+/// A definition of one region.
+fn of_one_region(
+    alloc: Global,
+    declared: Option<&[VarId]>,
+    size: Option<u32>,
+) -> Result<List<OpDef>, AllocError> {
+    let args = match declared {
+        Some(vars) => Some(List::from_slice(alloc, vars)?),
+        None => None,
+    };
+    let mut def = definition(alloc)?;
+    def.regions.push(RegionEntry {
+        name: None,
+        args,
+        size,
+    })?;
+    listed(alloc, def)
+}
+
+/// The signless integer types of these widths.
+fn integers(alloc: Global, u: &mut Uniquer, widths: &[u32]) -> Result<List<ValueId>, AllocError> {
+    let mut types = List::new(alloc);
+    for width in widths {
+        types.push(integer(u, *width)?)?;
+    }
+    Ok(types)
+}
+
 /// Whether an operation with one region meets a definition. Arguments are integers of these widths.
 fn has_region(
     rt: &impl Abort,
@@ -273,23 +374,9 @@ fn has_region(
     args: Option<&[u32]>,
     another: bool,
 ) -> Result<bool, AllocError> {
+    let defs = of_one_region(alloc, declared, size)?;
     let mut u = Uniquer::new(alloc);
-    let mut def = definition(alloc)?;
-    let declared = match declared {
-        Some(vars) => Some(List::from_slice(alloc, vars)?),
-        None => None,
-    };
-    def.regions.push(RegionEntry {
-        name: None,
-        args: declared,
-        size,
-    })?;
-    let mut defs = List::new(alloc);
-    defs.push(def)?;
-    let mut types = List::new(alloc);
-    for width in args.unwrap_or(&[]) {
-        types.push(u.intern(Head::Int(IntKind::Signless(*width)), &[])?)?;
-    }
+    let types = integers(alloc, &mut u, args.unwrap_or(&[]))?;
     let args = match args {
         Some(_) => Some(types.as_slice()),
         None => None,
