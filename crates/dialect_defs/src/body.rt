@@ -6,7 +6,7 @@ use attr_value::{BaseKind, List, Text, ValueId};
 pub const VARIABLE_LIMIT: usize = 64;
 
 /// A variable of a body, by its place there from 0.
-#[derive(Clone, Copy, Debug, PartialEq, Eq, Drop)]
+#[derive(Clone, Copy, Debug, Default, PartialEq, Eq, Drop)]
 pub struct VarId(pub usize);
 
 /// The kind of head that a value has to have.
