@@ -10,7 +10,7 @@ use Rattle.grammar.specs.Grammar.{Tokens}
 use Rattle.grammar.specs.Ran.{IsCodeOf}
 use Rattle.grammar.proofs.Codes.{code-once}
 use Rattle.grammar.specs.Exact.{HasMore}
-use Rattle.grammar.specs.Front.{Lists, Viable, Barred, Shallow, Some_of, Front, Refused, TooDeep}
+use Rattle.grammar.specs.Front.{Lists, Barred, Shallow, Some_of, Front, Refused, TooDeep}
 use Rattle.grammar.proofs.Cut.{Split, same, longer, shorter, split}
 
 -- two ends of what may come lie at one place

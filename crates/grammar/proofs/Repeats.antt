@@ -3,14 +3,14 @@
 -- A loop that reads none or more pieces keeps `GoneOver`: what is read from here on, put behind what
 -- was found, is what the whole repetition gives. So the invariant speaks of no tokens, and each
 -- turn is one lemma.
-use Rattle.std.proofs.Common.{◌≡◌, ℕ, ◌+◌, ◌≤◌, Bool, true, false, List, [], ◌∷◌, ◌++◌, length, Some, Ok, Err, arith, refl, sym, ◌∙◌, ap, append-nil, append_assoc}
+use Rattle.std.proofs.Common.{◌≡◌, ℕ, ◌+◌, ◌≤◌, Bool, true, false, List, [], ◌∷◌, ◌++◌, length, Ok, Err, arith, refl, sym, ◌∙◌, ap, append-nil, append_assoc}
 use Rattle.ir_lexer.specs.Source.{Source}
 use Rattle.ir_lexer.specs.Tokens.{Token}
 use Rattle.grammar.specs.declared.stop.SyntaxStop.{SyntaxStop}
 use Rattle.grammar.specs.declared.stop.SyntaxStop.TheVariants.{At, Failed, OutOfMemory}
-use Rattle.grammar.specs.Grammar.{Tokens, Parser, Outcome, done, stop, and_then, ◌>>=◌, pure, turns, G, nullable, starts}
+use Rattle.grammar.specs.Grammar.{Tokens, Parser, Outcome, done, stop, and_then, pure, turns, G, nullable, starts}
 use Rattle.grammar.specs.Rules.{many}
-use Rattle.grammar.specs.Ran.{GoneOver, HasRead, HasStopped, Went, Env, reads_in, Reads}
+use Rattle.grammar.specs.Ran.{GoneOver, HasRead, Went, Env, reads_in, Reads}
 use Rattle.grammar.proofs.Shrink.{Takes, takes-if, turns-same}
 use Rattle.grammar.proofs.Kept.{kept-same, kept-ok, kept-then, kept-err}
 use Rattle.grammar.proofs.Gone.{gone-none, gone-then}

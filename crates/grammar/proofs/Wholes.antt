@@ -2,7 +2,7 @@
 --
 -- A piece and then the end is a grammar of its own; its reader is the piece's, and then one look at
 -- the class. The answer is turned into the words of the grammar by the theorem on its reader.
-use Rattle.std.proofs.Common.{◌≡◌, ◌≢◌, ◌∙◌, ◌≤◌, ◌++◌, arith, Bool, true, false, [], ◌∷◌, Some, Result, Ok, Err, inl, inr, refl, sym, ap, subst, append-nil, length, length-append, ℕ}
+use Rattle.std.proofs.Common.{◌≡◌, ◌≢◌, ◌∙◌, ◌++◌, arith, Bool, true, false, [], ◌∷◌, Result, Ok, Err, inl, inr, refl, sym, ap, subst, append-nil, length, length-append, ℕ}
 use Rattle.std.specs.Result.{IsErr, IsErrAnd}
 use Rattle.std.proofs.lemmas.Result.{err_from_is_err_and}
 use denote.Enum.Bare.{true_same, false_same}
@@ -14,12 +14,12 @@ use Rattle.ir_lexer.specs.Tokens.{Token}
 use Rattle.grammar.specs.declared.stop.SyntaxCode.{SyntaxCode}
 use Rattle.grammar.specs.declared.stop.SyntaxStop.{SyntaxStop}
 use Rattle.grammar.specs.declared.stop.SyntaxStop.TheVariants.{At, Failed, OutOfMemory}
-use Rattle.grammar.specs.Answers.{Told, Answered, Accepts, IsRefusal, ReadsFront, ComeFrom, IsReadFrom}
-use Rattle.grammar.specs.Exact.{HasMore, Blocked, IsExactAnswer}
-use Rattle.grammar.specs.Front.{Lists, Some_of, Front, Refused, AreSpelled, Shallow}
+use Rattle.grammar.specs.Answers.{Told, Answered, Accepts, IsRefusal, ReadsFront, IsReadFrom}
+use Rattle.grammar.specs.Exact.{HasMore, IsExactAnswer}
+use Rattle.grammar.specs.Front.{Lists, Some_of, Front, AreSpelled, Shallow}
 use Rattle.grammar.specs.Grammar.{G, Tokens, Parser, Outcome, done, stop, and_then, read_tok}
 use Rattle.grammar.specs.Looks.{any_of, passes}
-use Rattle.grammar.specs.Ran.{Env, reads_in, GoneOver, HasRead, HasReadAll, HasStopped, Went, WentToEnd, IsAtEnd, IsEnd, Reads, ReadsWhole, IsCodeOf, code_by_class, code_at}
+use Rattle.grammar.specs.Ran.{Env, reads_in, HasReadAll, Went, WentToEnd, IsAtEnd, Reads, ReadsWhole, IsCodeOf, code_by_class, code_at}
 use Rattle.grammar.proofs.Codes.{code-of, code-once}
 use Rattle.grammar.proofs.Cut.{Split, same, longer, shorter, split}
 use Rattle.grammar.proofs.Fronts.{one-front, front-no-refusal}

@@ -33,7 +33,7 @@ use Rattle.grammar.specs.declared.stop.SyntaxStop.TheVariants.{At, Failed, OutOf
 use Rattle.grammar.specs.declared.stop.SyntaxCode.{SyntaxCode}
 use Rattle.grammar.specs.declared.stop.SyntaxCode.TheVariants as code
 use Rattle.grammar.specs.Front.{AreSpelled}
-use Rattle.grammar.specs.Grammar.{G, Tokens, Parser, Outcome, done, stop, nullable, reads, read_tok}
+use Rattle.grammar.specs.Grammar.{G, Tokens, Parser, done, stop, nullable, reads, read_tok}
 use Rattle.grammar.specs.Rules.{whole}
 
 -- ---- codes

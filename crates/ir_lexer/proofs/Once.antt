@@ -1,5 +1,5 @@
 -- A text has one list of tokens, whose last token alone is the end.
-use Rattle.std.proofs.Common.{◌≡◌, ◌≢◌, ◌⊎◌, inl, inr, ℕ, suc, ◌+◌, ◌<◌, ◌≤◌, Bool, true, false}
+use Rattle.std.proofs.Common.{◌≡◌, inl, inr, ℕ, suc, ◌+◌, ◌<◌, ◌≤◌, Bool, true, false}
 use Rattle.std.proofs.Common.{not, ◌&&◌, ◌==◌, if◌then◌else◌, slice_index, List, [], ◌∷◌, ◌++◌}
 use Rattle.std.proofs.Common.{length, take, drop, refl, sym, ◌∙◌, ap, subst, arith, length-drop}
 use Rattle.std.proofs.lemmas.Bool.{cases_lt}
@@ -7,9 +7,9 @@ use Rattle.ir_lexer.specs.declared.class.Class.{Class}
 use Rattle.ir_lexer.specs.declared.class.Class.TheVariants as c
 use Rattle.ir_lexer.specs.Spelling.{Text, Spells}
 use Rattle.ir_lexer.specs.Signs.{line_feed, slash}
-use Rattle.ir_lexer.specs.Tokens.{is_blank, Token, IsLongest, NoneFrom, IsFront, IsNext, AreTokensFrom, layout_len}
+use Rattle.ir_lexer.specs.Tokens.{is_blank, Token, IsLongest, IsFront, IsNext, AreTokensFrom, layout_len}
 use Rattle.ir_lexer.proofs.Machine.{accepted}
-use Rattle.ir_lexer.proofs.Next.{moves, front-within}
+use Rattle.ir_lexer.proofs.Next.{moves}
 
 -- no two classes have a spelling in common
 one-class : (a b : Class) (t : Text) → Spells a t → Spells b t → a ≡ b

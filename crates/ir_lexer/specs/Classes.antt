@@ -2,7 +2,7 @@
 --
 --   same_class a b       whether the two classes are one
 --   same_class-equal     it is true exactly where they are equal
-use Rattle.std.specs.Prelude.{◌≡◌, ◌↔◌, Bool, true, false, IsTrue, refl}
+use Rattle.std.specs.Prelude.{◌≡◌, ◌↔◌, Bool, true}
 use denote.Enum.Bare.{sameb, same_true, true_same}
 use Rattle.ir_lexer.specs.contracts.class.Class.{the_type}
 use Rattle.ir_lexer.specs.declared.class.Class.{Class}
