@@ -1,0 +1,6 @@
+pub mod OneToken
+pub mod Short
+pub mod Knot
+pub mod Rows
+pub mod Steps
+pub mod Parsing

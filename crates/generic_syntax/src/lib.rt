@@ -1,4 +1,4 @@
-//! Trees of what is read, and the readers of single names and words.
+//! Trees of what is read, and the readers of types and attributes.
 //!
 //! A tree keeps what was written and where; what it means is found by the crates above. Contracts
 //! see each tree as plain data, and a grammar makes the very same data, so "the tree of these
@@ -6,12 +6,17 @@
 #![tactic(auto)]
 
 mod cst;
+mod leaf;
 mod name;
+mod parse;
+mod token;
+mod value;
 mod word;
 
 pub use cst::{EntryCst, ItemCst, NameCst, ValueCst, ValueNode};
 pub use grammar::{SyntaxCode, SyntaxStop};
 pub use name::{read_name, read_word};
+pub use parse::{TOO_DEEP, parse_type, parse_value};
 pub use word::read_integer_type;
 
 #[cfg(test)]

@@ -1,0 +1,271 @@
+-- Steps of rules that the readers of values take, beside those of `grammar`.
+--
+--   at-look        a token that passes a look, taken by its class
+--   at-words       one of some words
+--   key-ok, ..     a token that also begins a value one deeper
+--   deeper, ..     a value that stands in another
+--   memory-after   memory ran out behind a piece
+use Rattle.std.proofs.Common.{◌≡◌, ℕ, zero, suc, ◌-◌, ◌<◌, Bool, true, false, ◌||◌, List, [], ◌∷◌, ◌++◌, Result, Ok, Err, ◌+◌, refl, sym, ◌∙◌, arith, codes, subst}
+use Rattle.generic_syntax.specs.declared.cst.ValueCst.{ValueCst}
+use Rattle.grammar.specs.declared.stop.SyntaxStop.{SyntaxStop}
+use Rattle.grammar.specs.declared.stop.SyntaxStop.TheVariants.{At, OutOfMemory}
+use Rattle.grammar.specs.declared.stop.SyntaxCode.TheVariants.{Nesting}
+use Rattle.grammar.specs.Grammar.{G, Tokens, Outcome, done, stop, and_then, pure, tok, starts, read_tok}
+use Rattle.grammar.specs.Looks.{Look, any_of, word, int_word, passes, any, class_of, text_fits}
+use Rattle.grammar.specs.Ran.{Ran, Went, Env, reads_in, Took, Reads, code_by_class}
+use Rattle.grammar.proofs.Gone.{gone-none}
+use Rattle.grammar.proofs.Meet.{and-true}
+use Rattle.grammar.proofs.Runs.{at-tok, at-ret, left, right, went-as}
+use Rattle.ir_lexer.specs.declared.class.Class.TheVariants.{Word}
+use Rattle.ir_lexer.specs.Source.{Source}
+use Rattle.ir_lexer.specs.Spelling.{Text}
+use Rattle.ir_lexer.specs.Tokens.{Token}
+use Rattle.generic_syntax.specs.Values.{Sort, Sem, rule, inner, one_of, type_word, type_words, list1}
+use Rattle.grammar.specs.Rules.{list}
+use Rattle.generic_syntax.specs.Begins.{Begins}
+use Rattle.generic_syntax.specs.Nested.{value_looks, value_at, values_within}
+use Rattle.generic_syntax.proofs.OneToken.{full}
+use Rattle.generic_syntax.proofs.Knot.{starts-rule, rule-starts}
+
+module _ {X : Type 0} {Sem : X → Type 0} {e : Env X Sem} where
+  -- memory ran out behind a piece
+  pub memory-after : {A : Type 0} {g : G X Sem A} {a : A} {s s' : Source} → Reads e g s (Ok a) s' → Reads e g s (Err OutOfMemory) s'
+  memory-after {s' = s'} x = record {
+    ran = record {
+      kept = record { faults = x.ran.kept.faults; cause = tt; origin = x.ran.kept.origin; steady = x.ran.kept.steady; goes_on = tt };
+      less = tt;
+      went = tt;
+    };
+  }
+
+-- the same tree, said in another way
+pub reads-as : {X : Type 0} {Sem : X → Type 0} {A : Type 0} {e : Env X Sem} {g : G X Sem A} {v w : A} {s s' : Source} → v ≡ w → Reads e g s (Ok w) s' → Reads e g s (Ok v) s'
+reads-as {e = e} {g = g} {s = s} {s' = s'} is x = subst (λ (y : _). Reads e g s (Ok y) s') (sym is) x
+
+-- a reader of one token by another test, on tokens whose first passes both or none
+tok-by : {A : Type 0} (test other : Token → Bool) (f : Token → A) (t : Token) (more w : Tokens)
+    → w ≡ t ∷ more → test t ≡ other t → read_tok false other f w ≡ read_tok false test f w
+tok-by test other f t more w is e = rw is (rw (sym e) refl)
+
+-- a token taken by another test that it passes as well
+pub took-as : {A : Type 0} {test other : Token → Bool} {f : Token → A} {s s' : Source}
+    {r : Result A SyntaxStop} → test s.now ≡ other s.now → Took test f s r s'
+    → Took other f s r s'
+took-as {test = test} {other = other} {f = f} {s = s} {r = r} e x = record {
+  ran = record {
+    kept = x.ran.kept;
+    less = x.ran.less;
+    went = went-as _ _ r (λ front y rest. let b = y.begins rest in
+        tok-by test other f s.now b.0 _ b.1 e) x.ran.went;
+  };
+}
+
+-- what passes a look is of its class
+by-class : (l : Look) (t : Token) → passes l t ≡ true → passes (any_of (class_of l)) t ≡ true
+by-class l t h = let u = and-true _ (text_fits l t.text) h in rw u.0 refl
+
+module _ {X : Type 0} {Sem : X → Type 0} {e : Env X Sem} where
+  -- a token that passes the look, taken by its class
+  pub at-look : {A : Type 0} (l : Look) {f : Token → A} {s s' : Source} {r : Result A SyntaxStop}
+      → passes l s.now ≡ true → Took (passes (any_of (class_of l))) f s r s' → Reads e (tok false l f) s r s'
+  at-look l {s = s} h x = at-tok (took-as (by-class l s.now h ∙ sym h) x)
+
+  -- a token that also begins a value one deeper, where one may
+  pub key-ok : {A : Type 0} (l : Look) {f : Token → A} {s s' : Source} {r : Result A SyntaxStop}
+      → e.none ≡ false → Took (passes l) f s r s' → Reads e (tok true l f) s r s'
+  unfolding reads_in
+  key-ok l {r = r} none x = record {
+    ran = record {
+      kept = x.ran.kept;
+      less = x.ran.less;
+      went = went-as _ _ r (λ front y rest. rw none refl) x.ran.went;
+    };
+  }
+
+  -- the same, where none may
+  pub key-deep : {A : Type 0} (l : Look) {f : Token → A} {s : Source} {why : SyntaxStop}
+      → e.none ≡ true → passes l s.now ≡ true → why ≡ At s.now.place Nesting → Reads e (tok true l f) s (Err why) s
+  unfolding reads_in
+  key-deep l {s = s} none h is = rw is (record {
+    ran = record {
+      kept = record { faults = omega arith; cause = tt; origin = refl; steady = λ h. h; goes_on = refl };
+      less = tt;
+      went = record {
+        front = [];
+        gone = gone-none s;
+        deep = true;
+        place_is = refl;
+        code_is = refl;
+        stops = λ rest. rw (none, h) refl;
+      };
+    };
+  })
+
+  -- the same token is refused
+  pub key-refused : {A : Type 0} (l : Look) {f : Token → A} {s : Source} {why : SyntaxStop}
+      → passes l s.now ≡ false → why ≡ At s.now.place (code_by_class s.now.class) → Reads e (tok true l f) s (Err why) s
+  unfolding reads_in
+  key-refused l {s = s} h is = rw is (record {
+    ran = record {
+      kept = record { faults = omega arith; cause = tt; origin = refl; steady = λ h. h; goes_on = refl };
+      less = tt;
+      went = record {
+        front = [];
+        gone = gone-none s;
+        deep = false;
+        place_is = refl;
+        code_is = refl;
+        stops = λ rest. rw h refl;
+      };
+    };
+  })
+
+  -- a token is refused
+  pub tok-refused : {A : Type 0} (l : Look) {f : Token → A} {s : Source} {why : SyntaxStop}
+      → passes l s.now ≡ false → why ≡ At s.now.place (code_by_class s.now.class) → Reads e (tok false l f) s (Err why) s
+  unfolding reads_in
+  tok-refused l {s = s} h is = rw is (record {
+    ran = record {
+      kept = record { faults = omega arith; cause = tt; origin = refl; steady = λ h. h; goes_on = refl };
+      less = tt;
+      went = record {
+        front = [];
+        gone = gone-none s;
+        deep = false;
+        place_is = refl;
+        code_is = refl;
+        stops = λ rest. rw h refl;
+      };
+    };
+  })
+
+module _ {e : Env Sort Sem} where
+  -- one of these words
+  pub at-words : (w : Text) (vs : List Text) {s s' : Source} {r : Result Text SyntaxStop}
+      → starts e.begins (one_of w vs) s.now ≡ true → Took (passes (any_of Word)) (λ t. t.text) s r s' → Reads e (one_of w vs) s r s'
+  at-words w [] {s = s} h x = at-look (word w) h x
+  at-words w (v ∷ vs) {s = s} {s' = s'} {r = r} h x = go (passes (word w) s.now) refl h (λ h. at-words v vs h x)
+    where
+      go : (b : Bool) → passes (word w) s.now ≡ b → (b || starts e.begins (one_of v vs) s.now) ≡ true
+          → (starts e.begins (one_of v vs) s.now ≡ true → Reads e (one_of v vs) s r s') → Reads e (one_of w (v ∷ vs)) s r s'
+      go true q h again = left q (at-look (word w) q x)
+      go false q h again = right q (again h)
+
+  -- a word that is none of these is refused
+  pub no-words : (w : Text) (vs : List Text) {s : Source} {why : SyntaxStop}
+      → starts e.begins (one_of w vs) s.now ≡ false → why ≡ At s.now.place (code_by_class s.now.class) → Reads e (one_of w vs) s (Err why) s
+  no-words w [] h is = tok-refused (word w) h is
+  no-words w (v ∷ vs) {s = s} {why = why} h is = go (passes (word w) s.now) refl h (λ h. no-words v vs h is)
+    where
+      go : (b : Bool) → passes (word w) s.now ≡ b → (b || starts e.begins (one_of v vs) s.now) ≡ false
+          → (starts e.begins (one_of v vs) s.now ≡ false → Reads e (one_of v vs) s (Err why) s) → Reads e (one_of w (v ∷ vs)) s (Err why) s
+      go true q h again = absurd (cc)
+      go false q h again = right q (again h)
+
+  -- a word that is a type
+  pub at-type-word : {s s' : Source} {r : Result Text SyntaxStop}
+      → starts e.begins type_word s.now ≡ true → Took (passes (any_of Word)) (λ t. t.text) s r s' → Reads e type_word s r s'
+  at-type-word {s = s} {s' = s'} {r = r} h x = go (passes int_word s.now) refl h
+    where
+      go : (b : Bool) → passes int_word s.now ≡ b → (b || starts e.begins (one_of (codes "index") type_words) s.now) ≡ true → Reads e type_word s r s'
+      go true q h = left q (at-look int_word q x)
+      go false q h = right q (at-words (codes "index") type_words h x)
+
+-- ---- a value that stands in another
+
+-- a reader and then nothing is the reader
+and-then-pure : (o : Outcome ValueCst) → and_then o (λ v. pure v) ≡ o
+and-then-pure (done v rest) = refl
+and-then-pure (stop d rest) = refl
+
+kid-ran : (n : ℕ) (x : Sort) (s s' : Source) (r : Result ValueCst SyntaxStop)
+    → Ran 1 (value_at n x) s r s' → Reads (values_within n) (inner x) s r s'
+unfolding reads_in
+kid-ran n x s s' r h = record {
+  ran = record {
+    kept = h.kept;
+    less = h.less;
+    went = went-as _ _ r (λ front y rest. and-then-pure (value_at n x (front ++ s'.now ∷ rest)))
+        h.went;
+  };
+}
+
+-- and the other way round: what was read of a value, its reader read
+pub kid-went : (n : ℕ) (x : Sort) (s s' : Source) (r : Result ValueCst SyntaxStop)
+    → Reads (values_within n) (inner x) s r s' → Went (value_at n x) s r s'
+unfolding reads_in
+kid-went n x s s' r h =
+    went-as _ _ r (λ front y rest. sym (and-then-pure (value_at n x (front ++ s'.now ∷ rest))))
+    h.ran.went
+
+one-deeper : (n : ℕ) (x : Sort) (s s' : Source) (r : Result ValueCst SyntaxStop) → Reads (values_within n) (rule x) s r s' → Ran 1 (value_at (suc n) x) s r s'
+unfolding value_at reads_in
+one-deeper n x s s' r h = record { kept = h.ran.kept; less = rw (full x) at h.ran.less; went = h.ran.went }
+
+-- the rule of a value, for the value
+pub deeper : (n : ℕ) (x : Sort) {s s' : Source} {r : Result ValueCst SyntaxStop} → 0 < n → Reads (values_within (n - 1)) (rule x) s r s' → Reads (values_within n) (inner x) s r s'
+deeper zero x h q = absurd (omega arith)
+deeper (suc n) x {s = s} {s' = s'} {r = r} h q = let e : suc n - 1 ≡ n = omega arith in kid-ran (suc n) x s s' r (one-deeper n x s s' r (rw e at q))
+
+-- the two ways to say with which tokens a value begins
+same-bool : (a b : Bool) → (a ≡ true → b ≡ true) → (b ≡ true → a ≡ true) → a ≡ b
+same-bool true b f g = sym (f refl)
+same-bool false true f g = g refl
+same-bool false false f g = refl
+
+-- the two ways to say with which tokens a value begins are one
+pub kid-begins : (x : Sort) (t : Token) → any (value_looks x) t ≡ Begins (rule x) t
+kid-begins x t = same-bool _ _ (rule-starts x t) (starts-rule x t)
+
+-- no value may nest so deep
+pub value-deep : (n : ℕ) (x : Sort) {s : Source} {why : SyntaxStop} → n ≡ 0 → Begins (rule x) s.now ≡ true → why ≡ At s.now.place Nesting → Reads (values_within n) (inner x) s (Err why) s
+unfolding value_at
+value-deep zero x {s = s} {why = why} z h is = let b = kid-begins x s.now ∙ h in kid-ran zero x s s (Err why) (rw is (record {
+  kept = record { faults = omega arith; cause = tt; origin = refl; steady = λ h. h; goes_on = refl };
+  less = tt;
+  went = record {
+    front = [];
+    gone = gone-none s;
+    deep = true;
+    place_is = refl;
+    code_is = refl;
+    stops = λ rest. rw b refl;
+  };
+}))
+value-deep (suc n) x z h is = absurd (omega arith)
+
+-- no value begins so
+pub value-refused : (n : ℕ) (x : Sort) {s : Source} {why : SyntaxStop} → n ≡ 0 → Begins (rule x) s.now ≡ false → why ≡ At s.now.place (code_by_class s.now.class) → Reads (values_within n) (inner x) s (Err why) s
+unfolding value_at
+value-refused zero x {s = s} {why = why} z h is = let b = kid-begins x s.now ∙ h in kid-ran zero x s s (Err why) (rw is (record {
+  kept = record { faults = omega arith; cause = tt; origin = refl; steady = λ h. h; goes_on = refl };
+  less = tt;
+  went = record {
+    front = [];
+    gone = gone-none s;
+    deep = false;
+    place_is = refl;
+    code_is = refl;
+    stops = λ rest. rw b refl;
+  };
+}))
+value-refused (suc n) x z h is = absurd (omega arith)
+
+-- ---- lists of values that stand in another
+
+-- no value begins here
+pub no-values : (n : ℕ) (x : Sort) {s : Source} → Begins (rule x) s.now ≡ false → Reads (values_within n) (list (inner x)) s (Ok []) s
+no-values n x {s = s} h = right (or-nothing _ (kid-begins x s.now ∙ h)) at-ret
+  where
+    or-nothing : (b : Bool) → b ≡ false → (b || false) ≡ false
+    or-nothing true e = absurd (cc)
+    or-nothing false e = refl
+
+-- one begins here
+pub some-values : (n : ℕ) (x : Sort) {s s' : Source} {r : Result (List ValueCst) SyntaxStop} → Begins (rule x) s.now ≡ true
+    → Reads (values_within n) (list1 (inner x)) s r s' → Reads (values_within n) (list (inner x)) s r s'
+some-values n x {s = s} h y = left (or-this _ (kid-begins x s.now ∙ h)) y
+  where
+    or-this : (b : Bool) → b ≡ true → (b || false) ≡ true
+    or-this true e = refl
+    or-this false e = absurd (cc)

@@ -1,0 +1,11 @@
+use Rattle.std.proofs.Common.{rules}
+use Rattle.grammar.proofs.Runs.{took-ok, took-err, took-exit}
+use Rattle.ir_lexer.specs.Names as names
+use Rattle.generic_syntax.proofs.token.read_text.Goals as goal
+
+pub returns-in_err-expect : goal.returns-in_err-expect
+returns-in_err-expect g c =
+    took-exit c.from_residual-in_err-expect.ensures (took-err c.in_err-expect.ensures.took)
+
+pub returns : goal.returns
+returns g c = took-ok (λ t. t.text) (search rules) c.in_ok-expect.ensures.took

@@ -1,0 +1,180 @@
+//! Single tokens of values.
+
+ghost use Rattle.std.specs.Prelude.{◌≡◌, ◌≢◌, [], ◌∷◌, codes, true};
+ghost use Rattle.grammar.specs.Looks.{any_of, dotted, undotted, passes, is_among};
+ghost use Rattle.grammar.specs.Looks as look;
+ghost use Rattle.grammar.specs.Ran.{Took};
+ghost use Rattle.ir_lexer.specs.Names as names;
+ghost use Rattle.generic_syntax.specs.Begins.{Begins};
+ghost use Rattle.generic_syntax.specs.Values as spec;
+
+use attr_value::Text;
+use grammar::{SyntaxStop, expect, is_class, is_integer_type, is_word};
+use ir_lexer::{Class, TokenSource, literal_bytes, name_bytes};
+use std::alloc::Global;
+
+/// Whether a dot stands in the text.
+fn has_dot(text: &[u8]) -> bool
+    ensures { result ≡ look.has_dot text.now }
+{
+    for byte in text {
+        if *byte == b'.' {
+            return true;
+        }
+    }
+    false
+}
+
+/// Whether the present token is of the class and has a dot.
+pub fn is_dotted<T: TokenSource>(t: &T, kind: Class) -> bool
+    ensures { result ≡ passes (dotted kind) (T.state t.now).now }
+{
+    is_class(t, kind) && has_dot(t.text())
+}
+
+/// Whether the present token is of the class and has no dot.
+pub fn is_undotted<T: TokenSource>(t: &T, kind: Class) -> bool
+    ensures { result ≡ passes (undotted kind) (T.state t.now).now }
+{
+    is_class(t, kind) && !has_dot(t.text())
+}
+
+/// Takes a token of this class, as its text.
+pub fn read_text<T: TokenSource>(alloc: Global, t: &mut T, kind: Class) -> Result<Text, SyntaxStop>
+    requires { kind ≢ Class.End }
+    ensures { Took (passes (any_of kind)) (λ t. t.text) (T.state t.old) result (T.state t.new) }
+{
+    let text = Text::from_slice(alloc, t.text())?;
+    expect(t, kind)?;
+    Ok(text)
+}
+
+/// Takes a string, as its bytes.
+pub fn read_string<T: TokenSource>(alloc: Global, t: &mut T) -> Result<Text, SyntaxStop>
+    ensures { Took (passes (any_of Class.Str)) (λ t. names.literal_bytes t.text)
+        (T.state t.old) result (T.state t.new) }
+{
+    let text = Text::from_vec(alloc, literal_bytes(alloc, t.text())?)?;
+    expect(t, Class::Str)?;
+    Ok(text)
+}
+
+/// Takes a name of this class, without its sign.
+pub fn read_sign_name<T: TokenSource>(
+    alloc: Global,
+    t: &mut T,
+    kind: Class,
+) -> Result<Text, SyntaxStop>
+    requires { kind ≢ Class.End }
+    ensures { Took (passes (any_of kind)) (λ t. names.name_bytes t.text)
+        (T.state t.old) result (T.state t.new) }
+{
+    let text = Text::from_vec(alloc, name_bytes(alloc, t.text())?)?;
+    expect(t, kind)?;
+    Ok(text)
+}
+
+/// Whether the present token is a word that is a type.
+pub fn is_type_word<T: TokenSource>(t: &T) -> bool
+    ensures { result ≡ Begins spec.type_word (T.state t.now).now }
+{
+    is_integer_type(t)
+        || (is_word(t, b"index")
+            || (is_word(t, b"none")
+                || (is_word(t, b"bf16")
+                    || (is_word(t, b"f16")
+                        || (is_word(t, b"tf32")
+                            || (is_word(t, b"f32")
+                                || (is_word(t, b"f64")
+                                    || (is_word(t, b"f80") || is_word(t, b"f128")))))))))
+}
+
+/// Whether the present token is a word that is an attribute.
+pub fn is_attr_word<T: TokenSource>(t: &T) -> bool
+    ensures { result ≡ Begins spec.attr_word (T.state t.now).now }
+{
+    is_word(t, b"true") || (is_word(t, b"false") || is_word(t, b"unit"))
+}
+
+/// Whether the present token is a truth value.
+pub fn is_truth<T: TokenSource>(t: &T) -> bool
+    ensures { result ≡ Begins (spec.one_of (codes "true") (codes "false" ∷ [])) (T.state t.now).now }
+{
+    is_word(t, b"true") || is_word(t, b"false")
+}
+
+/// Whether the present token is the width of a dense array.
+pub fn is_dense_width<T: TokenSource>(t: &T) -> bool
+    ensures { result ≡ Begins (spec.one_of (codes "i1") spec.dense_widths) (T.state t.now).now }
+{
+    is_word(t, b"i1")
+        || (is_word(t, b"i8") || (is_word(t, b"i16") || (is_word(t, b"i32") || is_word(t, b"i64"))))
+}
+
+/// Whether a type without parentheses begins with the present token.
+pub fn begins_plain<T: TokenSource>(t: &T) -> bool
+    ensures { result ≡ Begins spec.plain_node (T.state t.now).now }
+{
+    is_type_word(t)
+        || (is_undotted(t, Class::TypeName)
+            || (is_dotted(t, Class::TypeName)
+                || (is_word(t, b"tuple")
+                    || (is_word(t, b"complex")
+                        || (is_word(t, b"vector")
+                            || (is_word(t, b"tensor") || is_word(t, b"memref")))))))
+}
+
+/// Whether a type begins with the present token.
+pub fn begins_type<T: TokenSource>(t: &T) -> bool
+    ensures { result ≡ Begins spec.type_node (T.state t.now).now }
+{
+    begins_plain(t) || is_class(t, Class::LParen)
+}
+
+/// Whether an attribute that is no type begins with the present token.
+pub fn begins_attr_only<T: TokenSource>(t: &T) -> bool
+    ensures { result ≡ Begins spec.attr_node (T.state t.now).now }
+{
+    is_attr_word(t)
+        || (is_class(t, Class::Str)
+            || (is_class(t, Class::SymbolName)
+                || (begins_number(t)
+                    || (is_class(t, Class::LSquare)
+                        || (is_class(t, Class::LBrace)
+                            || (is_undotted(t, Class::AttrName)
+                                || (is_dotted(t, Class::AttrName) || is_word(t, b"array"))))))))
+}
+
+/// Whether a number begins with the present token.
+pub fn begins_number<T: TokenSource>(t: &T) -> bool
+    ensures { result ≡ Begins spec.number (T.state t.now).now }
+{
+    is_class(t, Class::Minus) || is_class(t, Class::Integer)
+}
+
+/// Whether an attribute begins with the present token.
+pub fn begins_attr<T: TokenSource>(t: &T) -> bool
+    ensures { result ≡ Begins spec.attr (T.state t.now).now }
+{
+    begins_type(t) || begins_attr_only(t)
+}
+
+/// Whether an entry of a dictionary begins with the present token.
+pub fn begins_entry<T: TokenSource>(t: &T) -> bool
+    ensures { result ≡ Begins spec.entry (T.state t.now).now }
+{
+    is_class(t, Class::Word) || is_class(t, Class::Str)
+}
+
+/// The width that the name of a signless integer type says, of one or two digits.
+pub fn width_of(word: &[u8]) -> u32
+    ensures { is_among (codes "i1" ∷ spec.dense_widths) word.now ≡ true → result ≡ spec.width_in word.now }
+{
+    match word {
+        b"i1" => 1,
+        b"i8" => 8,
+        b"i16" => 16,
+        b"i32" => 32,
+        _ => 64,
+    }
+}
