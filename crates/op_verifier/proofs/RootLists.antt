@@ -1,8 +1,7 @@
 -- What is asked of variables, as a list of roots.
 use Rattle.std.proofs.Common.{◌≡◌, ℕ, zero, suc, ◌+◌, ◌<◌, ◌≤◌, List, [], ◌∷◌, ◌++◌, length}
-use Rattle.std.proofs.Common.{Option, Some, None, slice_get, drop, refl, ap, sym}
-use Rattle.std.proofs.Common.{◌∙◌, subst, arith, append_assoc, append-nil}
-use Rattle.std.proofs.Math.ListN.{drop_of_length-le}
+use Rattle.std.proofs.Common.{Option, Some, None, slice_get, refl, ap, sym}
+use Rattle.std.proofs.Common.{◌∙◌, subst, arith}
 use Rattle.std.specs.Prelude.{slice_index_or}
 use Rattle.std.specs.List.{AllByRecursion}
 use Rattle.attr_value.specs.declared.head.ValueId.{ValueId}
@@ -14,16 +13,6 @@ use Rattle.constraint_solver.specs.Roots.{assigned, AreKnownIds}
 use Rattle.op_verifier.specs.Asked.{Slots}
 use Rattle.op_verifier.specs.Parts.{root_of, roots_of}
 use Rattle.constraint_solver.proofs.Given.{has-slot, slot-has}
-use Rattle.op_verifier.proofs.Walks.{drop-next}
-
--- the roots from a place on are that of the slot there and those behind it
-pub roots-next : (slots : Slots) (i : ℕ) (slot : Option ValueId) → slice_get slots i ≡ Some slot
-    → roots_of i (drop i slots) ≡ root_of i slot ++ roots_of (i + 1) (drop (i + 1) slots)
-roots-next slots i slot e = ap (roots_of i) (drop-next slots i slot e)
-
--- behind the last slot there is no root
-pub roots-end : (slots : Slots) (i : ℕ) → length slots ≤ i → roots_of i (drop i slots) ≡ []
-roots-end slots i past = ap (roots_of i) (drop_of_length-le slots {i = i} past)
 
 -- a root's variable has its value
 abbrev pub RootHas : List Value → Assignment → VarId × ValueId → Type 0
@@ -132,20 +121,3 @@ none-within values slots all a = roots-within values slots a (empty 0 slots all)
       append-all (RootHas values a) (root_of n slot) (roots_of (n + 1) slots)
       (subst (λ s. AllByRecursion (RootHas values a) (root_of n s)) (sym all.0) tt)
       (empty (n + 1) slots all.1)
-
--- a list of roots grows by one variable
-pub made-step : (slots : Slots) (i : ℕ) (slot : Option ValueId)
-    (before after all : List (VarId × ValueId))
-    → slice_get slots i ≡ Some slot → after ≡ before ++ root_of i slot
-    → before ++ roots_of i (drop i slots) ≡ all
-    → after ++ roots_of (i + 1) (drop (i + 1) slots) ≡ all
-made-step slots i slot before after all e grown made =
-    ap (λ l. l ++ roots_of (i + 1) (drop (i + 1) slots)) grown
-    ∙ append_assoc before (root_of i slot) (roots_of (i + 1) (drop (i + 1) slots))
-    ∙ ap (λ l. before ++ l) (sym (roots-next slots i slot e)) ∙ made
-
--- behind the last slot the list has all roots
-pub made-all : (slots : Slots) (i : ℕ) (before all : List (VarId × ValueId)) → length slots ≤ i
-    → before ++ roots_of i (drop i slots) ≡ all → before ≡ all
-made-all slots i before all past made =
-    sym (append-nil before) ∙ ap (λ l. before ++ l) (sym (roots-end slots i past)) ∙ made

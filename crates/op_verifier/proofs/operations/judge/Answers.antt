@@ -1,4 +1,4 @@
-use Rattle.std.proofs.Common.{◌∙◌, ap, refl, length, arith}
+use Rattle.std.proofs.Common.{◌∙◌, ap, refl, length}
 use Rattle.native_predicate.specs.Lists.{tests}
 use Rattle.constraint_solver.specs.Roots.{HasRoots}
 use Rattle.dialect_defs.specs.Assignments.{MeetsBody}
@@ -20,25 +20,18 @@ returns-then-not-ask_parts g c =
           c.new-wanted.ensures.none ((c.if-not-ask_parts.ensures x e).refuses refl) m),
     )
 
-pub roots-roots-requires : goal.roots-roots-requires
-roots-roots-requires g c =
-    let x = an-element (ops_in c.args.store.now) c.args.op.0 c.requires.op in
-    let asks = (c.if-not-ask_parts.ensures x.0 x.1).asks refl in
-    let vars = ap length c.as_slice.ensures in
-    omega (arith, asks.size, vars, c.new-wanted.ensures.size, c.requires.def.body.few)
-
 pub solve-requires-clause-roots : goal.solve-requires-clause-roots
 solve-requires-clause-roots g c =
     let x = an-element (ops_in c.args.store.now) c.args.op.0 c.requires.op in
     let asks = (c.if-not-ask_parts.ensures x.0 x.1).asks refl in
     roots-sound (length c.args.u.now) c.args.def.now.body c.ask_parts.new.self.slots.items
-    c.as_slice-2.result.now (c.as_slice-2.ensures ∙ c.roots-roots.ensures.items)
+    c.as_slice-2.result.now (c.as_slice-2.ensures.value ∙ c.roots-roots.ensures)
     (asks.size ∙ c.new-wanted.ensures.size ∙ ap length c.as_slice.ensures) asks.known
 
 pub returns : goal.returns
 returns g c =
     let says = tests (λ p. (g.dyn-1.0.entry p.0).1.property p.1) c.args.natives.now in
-    let roots = c.as_slice-2.ensures ∙ c.roots-roots.ensures.items in
+    let roots = c.as_slice-2.ensures.value ∙ c.roots-roots.ensures in
     λ x e.
     let o = operation_seen c.args.u.now (ids_of c.args.types.now) x in
     let asks = (c.if-not-ask_parts.ensures x e).asks refl in

@@ -1,4 +1,4 @@
-use Rattle.std.proofs.Common.{◌<◌, refl, arith, length, true, false, sym, true≢false}
+use Rattle.std.proofs.Common.{◌<◌, refl, arith, length, sym, true≢false}
 use Rattle.ir_store.specs.Numbering.{ops_in}
 use Rattle.op_verifier.specs.Meets.{IsJudgeable}
 use Rattle.op_verifier.proofs.RegionSteps.{an-element}

@@ -1,4 +1,4 @@
-use Rattle.std.proofs.Common.{◌<◌, refl, arith, length, true, false, sym, true≢false}
+use Rattle.std.proofs.Common.{◌<◌, refl, arith, length, sym, true≢false}
 use Rattle.attr_value.specs.Ids.{AreKnown}
 use Rattle.ir_store.specs.Numbering.{ops_in}
 use Rattle.op_verifier.specs.Seen.{Site}
