@@ -12,7 +12,7 @@ use Rattle.dialect_defs.specs.Operations.{operand_sizes_key, result_sizes_key}
 use Rattle.ir_store.specs.Modules.{types_in}
 use Rattle.ir_store.specs.Named.{HaveTypes}
 use Rattle.ir_store.specs.Store.{Module}
-use Rattle.op_verifier.specs.Asked.{Slots, Asks, Refuses, Asked}
+use Rattle.op_verifier.specs.Asked.{Slots, Asks, Refuses, Decides}
 use Rattle.op_verifier.specs.Parts.{HasSegments, HasParts}
 use Rattle.op_verifier.proofs.Walks.{known-at}
 
@@ -106,8 +106,8 @@ module _ (values : List Value) (d : OpDef) (o : Operation) (s0 s1 s2 s3 : Slots)
   pub parts-asked : (s4 : Slots) (taken : Bool) → o.successors ≡ length d.successors
       → Asks values s0 s1 (Operands values d o) → Asks values s1 s2 (Results values d o)
       → Asks values s2 s3 (Attributes values d o)
-      → Asked values s3 s4 taken (InRegions values d o)
-      → Asked values s0 s4 taken (HasParts d o)
+      → Decides values s3 s4 taken (InRegions values d o)
+      → Decides values s0 s4 taken (HasParts d o)
   parts-asked s4 taken successors first second third asked = record {
     asks = λ yes. parts-ask s4 successors first second third (asked.asks yes);
     refuses = λ no. regions-refuse first second third (asked.refuses no);

@@ -4,7 +4,7 @@ use Rattle.std.proofs.Common.{refl, sym}
 use Rattle.attr_value.specs.Values.{Value}
 use Rattle.dialect_defs.specs.Assignments.{Assignment}
 use Rattle.constraint_solver.specs.Roots.{AreKnownIds}
-use Rattle.op_verifier.specs.Asked.{Slots, Rest, Asks, Refuses, Asked}
+use Rattle.op_verifier.specs.Asked.{Slots, Rest, Asks, Refuses, Decides}
 
 module _ {values : List Value} where
   -- at first all is left
@@ -76,33 +76,33 @@ module _ {values : List Value} where
   }
 
   -- what was asked can be had
-  pub Asked-true : {old new : Slots} {Q : Assignment → Type 0} → Asks values old new Q
-      → Asked values old new true Q
-  Asked-true asks = record { asks = λ yes. asks; refuses = λ no. absurd (true≢false no) }
+  pub Decides-true : {old new : Slots} {Q : Assignment → Type 0} → Asks values old new Q
+      → Decides values old new true Q
+  Decides-true asks = record { asks = λ yes. asks; refuses = λ no. absurd (true≢false no) }
 
   -- it can't
-  pub Asked-false : {old new : Slots} {Q : Assignment → Type 0} → Refuses values old Q
-      → Asked values old new false Q
-  Asked-false refuses = record {
+  pub Decides-false : {old new : Slots} {Q : Assignment → Type 0} → Refuses values old Q
+      → Decides values old new false Q
+  Decides-false refuses = record {
     asks = λ yes. absurd (true≢false (sym yes));
     refuses = λ no. refuses;
   }
 
   -- what was asked, said otherwise
-  pub Asked-as : {old new : Slots} {taken : Bool} {Q P : Assignment → Type 0}
+  pub Decides-as : {old new : Slots} {taken : Bool} {Q P : Assignment → Type 0}
       → ((a : Assignment) → Q a → P a) → ((a : Assignment) → P a → Q a)
-      → Asked values old new taken Q → Asked values old new taken P
-  Asked-as to from asked = record {
+      → Decides values old new taken Q → Decides values old new taken P
+  Decides-as to from asked = record {
     asks = λ yes. rest-of (asked.asks yes) to from;
     refuses = λ no. let refuses = asked.refuses no in
         record { none = λ a w p. refuses.none a w (from a p) };
   }
 
   -- a test of what doesn't speak of variables
-  pub Asked-test : {s : Slots} {taken : Bool} {Q : Assignment → Type 0}
+  pub Decides-test : {s : Slots} {taken : Bool} {Q : Assignment → Type 0}
       → AreKnownIds (length values) s → ((a : Assignment) → IsTrue taken ↔ Q a)
-      → Asked values s s taken Q
-  Asked-test {s = s} {Q = Q} known says = record {
+      → Decides values s s taken Q
+  Decides-test {s = s} {Q = Q} known says = record {
     asks = λ yes. rest-end (rest-start s Q known) (λ a. (says a).0 yes);
     refuses = λ no. record { none = λ a w q. true≢false (sym ((says a).1 q) ∙ no) };
   }

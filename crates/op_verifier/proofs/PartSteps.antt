@@ -13,25 +13,25 @@ use Rattle.dialect_defs.specs.Assignments.{Assignment, Has}
 use Rattle.dialect_defs.specs.Operations.{EntriesHave, AttrHas}
 use Rattle.dialect_defs.specs.Segments.{Segments, parts}
 use Rattle.constraint_solver.specs.Roots.{AreKnownIds}
-use Rattle.op_verifier.specs.Asked.{Slots, Refuses, Asked}
+use Rattle.op_verifier.specs.Asked.{Slots, Refuses, Decides}
 use Rattle.op_verifier.specs.Parts.{HasSegments}
-use Rattle.op_verifier.proofs.Asking.{Asked-as, Asked-test}
+use Rattle.op_verifier.proofs.Asking.{Decides-as, Decides-test}
 use Rattle.op_verifier.proofs.Walks.{drop-next}
 
 module _ (values : List Value) (entry : AttrEntry) where
   -- an attribute that is there is asked of its variable
   pub attr-there : (s t : Slots) (taken : Bool) (o : Option Value) (x : Value) → o ≡ Some x
-      → Asked values s t taken (λ a. Has a entry.var x)
-      → Asked values s t taken (λ a. AttrHas a entry o)
+      → Decides values s t taken (λ a. Has a entry.var x)
+      → Decides values s t taken (λ a. AttrHas a entry o)
   attr-there s t taken o x e asked =
-      Asked-as (λ a has. subst (AttrHas a entry) (sym e) has)
+      Decides-as (λ a has. subst (AttrHas a entry) (sym e) has)
       (λ a has. subst (AttrHas a entry) e has) asked
 
   -- one that is missing has to be optional
   pub attr-missing : (s : Slots) (o : Option Value) → o ≡ None → AreKnownIds (length values) s
-      → Asked values s s entry.optional (λ a. AttrHas a entry o)
+      → Decides values s s entry.optional (λ a. AttrHas a entry o)
   attr-missing s o e known =
-      Asked-test known (λ a. (
+      Decides-test known (λ a. (
         λ yes. subst (AttrHas a entry) (sym e) yes,
         λ has. subst (AttrHas a entry) e has,
       ))
@@ -93,10 +93,10 @@ module _ (values : List Value) (entries : List Entry) (vs : List Value) (given :
     pub segments-asked : (s t : Slots) (taken : Bool) (n : ℕ) (found : ArrayVec ℕ)
         → n ≡ length vs → Segments entries n given found.items
         → ((sizes : List ℕ) → Segments entries n given sizes → found.items ≡ sizes)
-        → Asked values s t taken (λ a. EntriesHave a entries (parts found.items vs))
-        → Asked values s t taken (λ a. HasSegments a entries vs given)
+        → Decides values s t taken (λ a. EntriesHave a entries (parts found.items vs))
+        → Decides values s t taken (λ a. HasSegments a entries vs given)
     segments-asked s t taken n found count segments only asked =
-        Asked-as
+        Decides-as
         (λ a have. record {
           sizes = found.items;
           segments = subst (λ m. Segments entries m given found.items) count segments;

@@ -20,11 +20,11 @@ use Rattle.ir_store.specs.Numbering.{Numbers, BlockSite, RegionSite, past_block,
 use Rattle.ir_store.specs.Numbering.{past_region, behind_blocks}
 use Rattle.ir_store.specs.Store.{OpName, Module}
 use Rattle.constraint_solver.specs.Roots.{AreKnownIds}
-use Rattle.op_verifier.specs.Asked.{Slots, Rest, Asks, Refuses, Asked}
+use Rattle.op_verifier.specs.Asked.{Slots, Rest, Asks, Refuses, Decides}
 use Rattle.op_verifier.specs.Parts.{types_from}
 use Rattle.op_verifier.specs.Seen.{type_in, values_at, blocks_seen, regions_seen}
 use Rattle.constraint_solver.proofs.Filled.{have-lengths}
-use Rattle.op_verifier.proofs.Asking.{rest-start, rest-step, rest-refused, rest-end, Asked-as}
+use Rattle.op_verifier.proofs.Asking.{rest-start, rest-step, rest-refused, rest-end, Decides-as}
 use Rattle.op_verifier.proofs.Walks.{drop-next, known-at}
 
 -- an element at a place within a list
@@ -189,14 +189,14 @@ module _ (values : List Value) (m : Module) (vars : List VarId) (id : BlockId)
       → (n ≡ x.at.values) × (count ≡ length x.args))
       → ((x : BlockSite OpName ValueId) → block_at m id ≡ Some x → HaveTypes m n x.args)
       → count ≡ length vars
-      → Asked values s t taken
+      → Decides values s t taken
       (λ a. HaveEach a vars (values_at values (types_from m n (length vars))))
-      → Asked values s t taken (λ a. ArgsHave a (Some vars) (blocks_seen values bs))
+      → Decides values s t taken (λ a. ArgsHave a (Some vars) (blocks_seen values bs))
   args-asked s t taken count n first counts types same asked =
       let seen = λ (a : Assignment). block-seen a count n first
       (counts first.site first.named).1 same
       (types first.site first.named) in
-      Asked-as
+      Decides-as
       (λ a have. subst (ArgsHave a (Some vars)) (sym first.seen)
       (subst (HaveEach a vars) (sym (seen a)) have))
       (λ a have. subst (HaveEach a vars) (seen a) (subst (ArgsHave a (Some vars)) first.seen have))
@@ -215,10 +215,10 @@ any-args values vars seen s known none =
 module _ (values : List Value) (entry : RegionEntry) (seen : List (List Value)) where
   -- a region of the declared size asks its arguments
   pub region-asked : (s t : Slots) (taken : Bool) → IfSome entry.size (λ n. length seen ≡ n)
-      → Asked values s t taken (λ a. ArgsHave a entry.args seen)
-      → Asked values s t taken (λ a. RegionHas a entry seen)
+      → Decides values s t taken (λ a. ArgsHave a entry.args seen)
+      → Decides values s t taken (λ a. RegionHas a entry seen)
   region-asked s t taken size asked =
-      Asked-as (λ a have. record { size = size; args = have }) (λ a have. have.args) asked
+      Decides-as (λ a have. record { size = size; args = have }) (λ a have. have.args) asked
 
   -- one of another size is refused
   pub size-refuses : (s : Slots) → (IfSome entry.size (λ n. length seen ≡ n) → ⊥)

@@ -5,7 +5,8 @@
 --   Rest values old now Q R            what was asked since, and R, is the same as Q
 --   Asks values old new Q              what was asked since is Q
 --   Refuses values old Q               no map above old has Q
---   Asked values old new taken Q       a call that asks Q answers whether Q can be had
+--   Decides values old new taken Q     an answer says whether Q can be had
+--   Asked old new taken Q              the same of what is wanted, whose table stays
 --
 -- Inside: no public clause rests on this.
 use Rattle.std.specs.Prelude.{◌≡◌, Bool, false, IsTrue, List, length}
@@ -14,6 +15,7 @@ use Rattle.attr_value.specs.declared.head.ValueId.{ValueId}
 use Rattle.attr_value.specs.Values.{Value}
 use Rattle.constraint_solver.specs.Roots.{assigned, AreKnownIds}
 use Rattle.dialect_defs.specs.Assignments.{Assignment, IsWithin}
+use Rattle.op_verifier.specs.declared.wanted.Wanted.{Wanted}
 
 -- for each variable the id of the value that is asked of it, if one is
 abbrev pub Slots : Type 0
@@ -38,7 +40,12 @@ pub record Refuses (values : List Value) (old : Slots) (Q : Assignment → Type 
   pub none : (a : Assignment) → IsWithin (assigned values old) a → Q a → ⊥
 
 -- where the answer is true, what was asked since is Q; where it is false, no map above old has Q
-pub record Asked (values : List Value) (old new : Slots) (taken : Bool) (Q : Assignment → Type 0)
-    : Type 0 where
+pub record Decides (values : List Value) (old new : Slots) (taken : Bool)
+    (Q : Assignment → Type 0) : Type 0 where
   pub asks : IsTrue taken → Asks values old new Q
   pub refuses : taken ≡ false → Refuses values old Q
+
+-- a call that asks Q keeps the table, and its answer says whether Q can be had
+pub record Asked (old new : Wanted) (taken : Bool) (Q : Assignment → Type 0) : Type 0 where
+  pub same : new.u.now ≡ old.u.now
+  pub decides : Decides old.u.now old.slots.items new.slots.items taken Q

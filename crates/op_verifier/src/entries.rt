@@ -9,7 +9,6 @@ ghost use Rattle.dialect_defs.specs.Operations.{EntriesHave, AttrHas, attr_at};
 ghost use Rattle.dialect_defs.specs.Segments.{parts};
 ghost use Rattle.ir_store.specs.Named.{AttrsAreRight};
 ghost use Rattle.ir_store.specs.Store.{head_of};
-ghost use Rattle.constraint_solver.specs.Roots.{AreKnownIds};
 ghost use Rattle.op_verifier.specs.Asked.{Asked};
 ghost use Rattle.op_verifier.specs.Parts.{HasSegments};
 ghost use Rattle.op_verifier.specs.Seen.{values_at, attrs_seen};
@@ -19,25 +18,23 @@ ghost use Rattle.op_verifier.specs.Types.{ids_of};
 use crate::attrs::attribute;
 use crate::operands::Types;
 use crate::wanted::Wanted;
-use attr_uniquer::Uniquer;
 use dialect_defs::{AttrEntry, ENTRY_LIMIT, Entry, VarId};
 use ir_store::OpRow;
 use segment_match::sizes;
 
-impl Wanted {
+impl Wanted<'_> {
     /// Asks the types from `start` to `end` of a variable.
-    fn ask_all(&mut self, u: &Uniquer, var: VarId, types: &Types, start: usize, end: usize) -> bool
-        requires slots { AreKnownIds (length u.now) self.old.slots.items }
+    fn ask_all(&mut self, var: VarId, types: &Types, start: usize, end: usize) -> bool
         requires var { var.0 < length self.old.slots.items }
-        requires known { AreKnown (length u.now) (ids_of types.now) }
+        requires known { AreKnown (length self.old.u.now) (ids_of types.now) }
         requires order { start ≤ end }
         requires within { end ≤ length (ids_of types.now) }
-        ensures { Asked u.now self.old.slots.items self.new.slots.items result
+        ensures { Asked self.old self.new result
             (λ a. AllByRecursion (Has a var)
-            (take (end - start) (drop start (values_at u.now (ids_of types.now))))) }
+            (take (end - start) (drop start (values_at self.old.u.now (ids_of types.now))))) }
     {
         for i in start..end {
-            if !self.ask(u, var, types.get(i)) {
+            if !self.ask(var, types.get(i)) {
                 return false;
             }
         }
@@ -45,27 +42,20 @@ impl Wanted {
     }
 
     /// Asks the types of each segment of its entry's variable.
-    fn ask_entries(
-        &mut self,
-        u: &Uniquer,
-        entries: &[Entry],
-        sizes: &[usize],
-        types: &Types,
-    ) -> bool
-        requires slots { AreKnownIds (length u.now) self.old.slots.items }
+    fn ask_entries(&mut self, entries: &[Entry], sizes: &[usize], types: &Types) -> bool
         requires vars { EntriesAreBelow (length self.old.slots.items) entries.now }
-        requires known { AreKnown (length u.now) (ids_of types.now) }
+        requires known { AreKnown (length self.old.u.now) (ids_of types.now) }
         requires count { length sizes.now ≡ length entries.now }
         requires total { sum sizes.now ≡ length (ids_of types.now) }
         requires fits { length (ids_of types.now) < 2 ^ 64 }
-        ensures { Asked u.now self.old.slots.items self.new.slots.items result
+        ensures { Asked self.old self.new result
             (λ a. EntriesHave a entries.now
-            (parts sizes.now (values_at u.now (ids_of types.now)))) }
+            (parts sizes.now (values_at self.old.u.now (ids_of types.now)))) }
     {
         let mut start = 0;
         for (i, entry) in entries.iter().enumerate() {
             let end = start + sizes[i];
-            if !self.ask_all(u, entry.var, types, start, end) {
+            if !self.ask_all(entry.var, types, start, end) {
                 return false;
             }
             start = end;
@@ -76,55 +66,51 @@ impl Wanted {
     /// Asks that the types fall into segments, and those of each segment of its entry's variable.
     pub(crate) fn ask_segments(
         &mut self,
-        u: &Uniquer,
         entries: &[Entry],
         types: &Types,
         given: Option<&[i64]>,
     ) -> bool
-        requires slots { AreKnownIds (length u.now) self.old.slots.items }
         requires vars { EntriesAreBelow (length self.old.slots.items) entries.now }
         requires few { length entries.now ≤ ENTRY_LIMIT }
-        requires known { AreKnown (length u.now) (ids_of types.now) }
-        ensures { Asked u.now self.old.slots.items self.new.slots.items result
-            (λ a. HasSegments a entries.now (values_at u.now (ids_of types.now))
+        requires known { AreKnown (length self.old.u.now) (ids_of types.now) }
+        ensures { Asked self.old self.new result
+            (λ a. HasSegments a entries.now (values_at self.old.u.now (ids_of types.now))
             (option_copied given.entry)) }
     {
         let Some(sizes) = sizes(entries, types.len(), given) else {
             return false;
         };
-        self.ask_entries(u, entries, sizes.as_slice(), types)
+        self.ask_entries(entries, sizes.as_slice(), types)
     }
 
     /// Asks an attribute's value of its entry's variable. One that is missing has to be optional.
-    fn ask_attr(&mut self, u: &Uniquer, entry: &AttrEntry, row: &OpRow) -> bool
-        requires slots { AreKnownIds (length u.now) self.old.slots.items }
+    fn ask_attr(&mut self, entry: &AttrEntry, row: &OpRow) -> bool
         requires var { entry.now.var.0 < length self.old.slots.items }
         requires attrs { AttrsAreRight (head_of row.now) }
-        requires known { AreKnown (length u.now) row.now.values }
-        ensures { Asked u.now self.old.slots.items self.new.slots.items result
+        requires known { AreKnown (length self.old.u.now) row.now.values }
+        ensures { Asked self.old self.new result
             (λ a. AttrHas a entry.now (attr_at
-            (attrs_seen u.now row.now.keys row.now.values) entry.now.name)) }
+            (attrs_seen self.old.u.now row.now.keys row.now.values) entry.now.name)) }
     {
         match attribute(row, entry.name.bytes()) {
-            Some(id) => self.ask(u, entry.var, id),
+            Some(id) => self.ask(entry.var, id),
             None => entry.optional,
         }
     }
 
     /// Asks each attribute's value of its entry's variable. Those that are missing have to be
     /// optional.
-    pub(crate) fn ask_attrs(&mut self, u: &Uniquer, entries: &[AttrEntry], row: &OpRow) -> bool
-        requires slots { AreKnownIds (length u.now) self.old.slots.items }
+    pub(crate) fn ask_attrs(&mut self, entries: &[AttrEntry], row: &OpRow) -> bool
         requires vars { AttrsAreBelow (length self.old.slots.items) entries.now }
         requires attrs { AttrsAreRight (head_of row.now) }
-        requires known { AreKnown (length u.now) row.now.values }
-        ensures { Asked u.now self.old.slots.items self.new.slots.items result
+        requires known { AreKnown (length self.old.u.now) row.now.values }
+        ensures { Asked self.old self.new result
             (λ a. AllByRecursion (λ entry. AttrHas a entry (attr_at
-            (attrs_seen u.now row.now.keys row.now.values) entry.name))
+            (attrs_seen self.old.u.now row.now.keys row.now.values) entry.name))
             entries.now) }
     {
         for entry in entries {
-            if !self.ask_attr(u, entry, row) {
+            if !self.ask_attr(entry, row) {
                 return false;
             }
         }

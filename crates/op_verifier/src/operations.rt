@@ -8,8 +8,8 @@ ghost use Rattle.dialect_defs.specs.declared.definition.OpDef.{OpDef as Def};
 ghost use Rattle.ir_store.specs.Named.{op_at};
 ghost use Rattle.ir_store.specs.Numbering.{ops_in};
 ghost use Rattle.native_predicate.specs.Lists.{tests, count};
-ghost use Rattle.op_verifier.specs.Meets.{NamesDef, IsJudgeable, CanJudge};
-ghost use Rattle.op_verifier.specs.Meets.{MeetsNamed, MeetsStored, AllMeet, IsFirstFault, HasFronts};
+ghost use Rattle.op_verifier.specs.Meets.{NamesDef, IsJudgeable, CanJudge, HasFronts};
+ghost use Rattle.op_verifier.specs.Meets.{MeetsNamed, MeetsStored, AllMeet, IsFirstFault};
 ghost use Rattle.op_verifier.specs.Seen.{HasIds, operation_seen};
 ghost use Rattle.op_verifier.specs.Sound.{IsSoundOp, AreSoundOps};
 ghost use Rattle.op_verifier.specs.Types.{ids_of};
@@ -47,8 +47,8 @@ fn judge(
         ↔ MeetsDefinition u.now (tests property natives.now) def.now
         (operation_seen u.now (ids_of types.now) x)) }
 {
-    let mut wanted = Wanted::new(def.body.vars.as_slice().len());
-    if !wanted.ask_parts(u, def, store, op, types) {
+    let mut wanted = Wanted::new(u, def.body.vars.as_slice().len());
+    if !wanted.ask_parts(def, store, op, types) {
         return false;
     }
     let roots = wanted.roots();

@@ -8,7 +8,6 @@ ghost use Rattle.dialect_defs.specs.Operations.{operand_sizes_key, result_sizes_
 ghost use Rattle.ir_store.specs.Named.{op_at, AttrsAreRight};
 ghost use Rattle.ir_store.specs.Numbering.{ops_in};
 ghost use Rattle.ir_store.specs.Store.{head_of};
-ghost use Rattle.constraint_solver.specs.Roots.{AreKnownIds};
 ghost use Rattle.op_verifier.specs.Asked.{Asked};
 ghost use Rattle.op_verifier.specs.Parts.{HasSegments, HasParts};
 ghost use Rattle.op_verifier.specs.Seen.{HasIds, operation_seen, values_at, attrs_seen};
@@ -18,77 +17,66 @@ ghost use Rattle.op_verifier.specs.Types.{ids_of};
 use crate::attrs::sizes_given;
 use crate::operands::Types;
 use crate::wanted::Wanted;
-use attr_uniquer::Uniquer;
 use dialect_defs::{ENTRY_LIMIT, Entry, OpDef};
 use ir_store::{OpId, OpRow, Store};
 
-impl Wanted {
+impl Wanted<'_> {
     /// Asks the types of the operands of their entries' variables.
-    fn ask_operands(&mut self, u: &Uniquer, entries: &[Entry], row: &OpRow, types: &Types) -> bool
-        requires slots { AreKnownIds (length u.now) self.old.slots.items }
+    fn ask_operands(&mut self, entries: &[Entry], row: &OpRow, types: &Types) -> bool
         requires vars { EntriesAreBelow (length self.old.slots.items) entries.now }
         requires few { length entries.now ≤ ENTRY_LIMIT }
         requires attrs { AttrsAreRight (head_of row.now) }
-        requires known { AreKnown (length u.now) row.now.values }
-        requires types { AreKnown (length u.now) (ids_of types.now) }
-        ensures { Asked u.now self.old.slots.items self.new.slots.items result
-            (λ a. HasSegments a entries.now (values_at u.now (ids_of types.now)) (given_sizes
-            (attr_at
-            (attrs_seen u.now row.now.keys row.now.values) operand_sizes_key))) }
+        requires known { AreKnown (length self.old.u.now) row.now.values }
+        requires types { AreKnown (length self.old.u.now) (ids_of types.now) }
+        ensures { Asked self.old self.new result
+            (λ a. HasSegments a entries.now (values_at self.old.u.now (ids_of types.now))
+            (given_sizes (attr_at
+            (attrs_seen self.old.u.now row.now.keys row.now.values) operand_sizes_key))) }
     {
-        let given = sizes_given(u, row, b"operandSegmentSizes");
-        self.ask_segments(u, entries, types, given)
+        let given = sizes_given(self.u, row, b"operandSegmentSizes");
+        self.ask_segments(entries, types, given)
     }
 
     /// Asks the types of the results of their entries' variables.
-    fn ask_results(&mut self, u: &Uniquer, entries: &[Entry], row: &OpRow) -> bool
-        requires slots { AreKnownIds (length u.now) self.old.slots.items }
+    fn ask_results(&mut self, entries: &[Entry], row: &OpRow) -> bool
         requires vars { EntriesAreBelow (length self.old.slots.items) entries.now }
         requires few { length entries.now ≤ ENTRY_LIMIT }
         requires attrs { AttrsAreRight (head_of row.now) }
-        requires known { AreKnown (length u.now) row.now.values }
-        requires types { AreKnown (length u.now) row.now.results.items }
-        ensures { Asked u.now self.old.slots.items self.new.slots.items result
-            (λ a. HasSegments a entries.now (values_at u.now row.now.results.items)
+        requires known { AreKnown (length self.old.u.now) row.now.values }
+        requires types { AreKnown (length self.old.u.now) row.now.results.items }
+        ensures { Asked self.old self.new result
+            (λ a. HasSegments a entries.now (values_at self.old.u.now row.now.results.items)
             (given_sizes (attr_at
-            (attrs_seen u.now row.now.keys row.now.values) result_sizes_key))) }
+            (attrs_seen self.old.u.now row.now.keys row.now.values) result_sizes_key))) }
     {
-        let given = sizes_given(u, row, b"resultSegmentSizes");
+        let given = sizes_given(self.u, row, b"resultSegmentSizes");
         let types = Types::Listed(row.results.as_slice());
-        self.ask_segments(u, entries, &types, given)
+        self.ask_segments(entries, &types, given)
     }
 
     /// Asks all that an operation's parts ask, where its operands have these types.
-    pub(crate) fn ask_parts(
-        &mut self,
-        u: &Uniquer,
-        def: &OpDef,
-        store: &Store,
-        op: OpId,
-        types: &Types,
-    ) -> bool
-        requires slots { AreKnownIds (length u.now) self.old.slots.items }
+    pub(crate) fn ask_parts(&mut self, def: &OpDef, store: &Store, op: OpId, types: &Types) -> bool
         requires names { NamesAreBelow (length self.old.slots.items) def.now }
-        requires ids { HasIds (length u.now) store.now }
-        requires types { AreKnown (length u.now) (ids_of types.now) }
+        requires ids { HasIds (length self.old.u.now) store.now }
+        requires types { AreKnown (length self.old.u.now) (ids_of types.now) }
         requires op { op.0 < length (ops_in store.now) }
         ensures { ForSome (op_at store.now op) (λ x.
-            Asked u.now self.old.slots.items self.new.slots.items result
-            (HasParts def.now (operation_seen u.now (ids_of types.now) x))) }
+            Asked self.old self.new result
+            (HasParts def.now (operation_seen self.old.u.now (ids_of types.now) x))) }
     {
         let row = store.op(op);
         if row.successors.len() != def.successors.as_slice().len() {
             return false;
         }
-        if !self.ask_operands(u, def.operands.as_slice(), row, types) {
+        if !self.ask_operands(def.operands.as_slice(), row, types) {
             return false;
         }
-        if !self.ask_results(u, def.results.as_slice(), row) {
+        if !self.ask_results(def.results.as_slice(), row) {
             return false;
         }
-        if !self.ask_attrs(u, def.attrs.as_slice(), row) {
+        if !self.ask_attrs(def.attrs.as_slice(), row) {
             return false;
         }
-        self.ask_regions(u, def.regions.as_slice(), store, op)
+        self.ask_regions(def.regions.as_slice(), store, op)
     }
 }

@@ -11,7 +11,6 @@ ghost use Rattle.ir_store.specs.Named.{op_at, region_at, AreBlocks};
 ghost use Rattle.ir_store.specs.Numbering.{Numbers, ops_in, regions_in};
 ghost use Rattle.ir_store.specs.Store.{OpName};
 ghost use Rattle.attr_value.specs.declared.head.ValueId.{ValueId as Id};
-ghost use Rattle.constraint_solver.specs.Roots.{AreKnownIds};
 ghost use Rattle.op_verifier.specs.Asked.{Asked};
 ghost use Rattle.op_verifier.specs.Parts.{types_from};
 ghost use Rattle.op_verifier.specs.Seen.{values_at, blocks_seen, regions_seen};
@@ -19,26 +18,24 @@ ghost use Rattle.op_verifier.specs.Sound.{RegionsAreBelow};
 
 use crate::operands::type_of;
 use crate::wanted::Wanted;
-use attr_uniquer::Uniquer;
 use dialect_defs::{RegionEntry, VarId};
 use ir_store::{BlockId, OpId, RegionId, Store};
 
-impl Wanted {
+impl Wanted<'_> {
     /// Asks the types of as many values as there are variables, from the number `first` on, each
     /// of the variable at its place.
-    fn ask_each(&mut self, u: &Uniquer, vars: &[VarId], store: &Store, first: usize) -> bool
-        requires slots { AreKnownIds (length u.now) self.old.slots.items }
+    fn ask_each(&mut self, vars: &[VarId], store: &Store, first: usize) -> bool
         requires vars { AreBelow (length self.old.slots.items) vars.now }
-        requires known { AreKnown (length u.now) (types_in store.now) }
+        requires known { AreKnown (length self.old.u.now) (types_in store.now) }
         requires there { (i : ℕ) → i < length vars.now → first + i < length (types_in store.now) }
-        ensures { Asked u.now self.old.slots.items self.new.slots.items result
+        ensures { Asked self.old self.new result
             (λ a. HaveEach a vars.now
-            (values_at u.now (types_from store.now first (length vars.now)))) }
+            (values_at self.old.u.now (types_from store.now first (length vars.now)))) }
     {
         // the numbers of values don't overflow
         let _ = store.values();
         for (i, var) in vars.iter().enumerate() {
-            if !self.ask(u, *var, type_of(store, first + i)) {
+            if !self.ask(*var, type_of(store, first + i)) {
                 return false;
             }
         }
@@ -47,15 +44,14 @@ impl Wanted {
 
     /// Asks that the first block has as many arguments as there are variables, and their types of
     /// these. Where there is no block, there have to be no variables.
-    fn ask_args(&mut self, u: &Uniquer, vars: &[VarId], store: &Store, blocks: &[BlockId]) -> bool
-        requires slots { AreKnownIds (length u.now) self.old.slots.items }
+    fn ask_args(&mut self, vars: &[VarId], store: &Store, blocks: &[BlockId]) -> bool
         requires vars { AreBelow (length self.old.slots.items) vars.now }
-        requires known { AreKnown (length u.now) (types_in store.now) }
+        requires known { AreKnown (length self.old.u.now) (types_in store.now) }
         requires blocks { (c : Numbers) × (bs : Blocks OpName Id)
             × AreBlocks store.now c blocks.now bs }
         ensures { (c : Numbers) (bs : Blocks OpName Id) → AreBlocks store.now c blocks.now bs
-            → Asked u.now self.old.slots.items self.new.slots.items result
-            (λ a. ArgsHave a (Some vars.now) (blocks_seen u.now bs)) }
+            → Asked self.old self.new result
+            (λ a. ArgsHave a (Some vars.now) (blocks_seen self.old.u.now bs)) }
     {
         let Some(block) = blocks.first() else {
             return vars.is_empty();
@@ -64,58 +60,44 @@ impl Wanted {
         if count != vars.len() {
             return false;
         }
-        self.ask_each(u, vars, store, first)
+        self.ask_each(vars, store, first)
     }
 
     /// Asks that a region has the declared number of blocks and the declared arguments.
-    fn ask_region(
-        &mut self,
-        u: &Uniquer,
-        entry: &RegionEntry,
-        store: &Store,
-        region: RegionId,
-    ) -> bool
-        requires slots { AreKnownIds (length u.now) self.old.slots.items }
+    fn ask_region(&mut self, entry: &RegionEntry, store: &Store, region: RegionId) -> bool
         requires vars { IfSome entry.now.args (AreBelow (length self.old.slots.items)) }
-        requires known { AreKnown (length u.now) (types_in store.now) }
+        requires known { AreKnown (length self.old.u.now) (types_in store.now) }
         requires region { region.0 < length (regions_in store.now) }
         ensures { ForSome (region_at store.now region) (λ x.
-            Asked u.now self.old.slots.items self.new.slots.items result
-            (λ a. RegionHas a entry.now (blocks_seen u.now x.blocks))) }
+            Asked self.old self.new result
+            (λ a. RegionHas a entry.now (blocks_seen self.old.u.now x.blocks))) }
     {
         let blocks = store.blocks_of(region);
         if !has_size(entry.size, blocks.len()) {
             return false;
         }
         match &entry.args {
-            Some(vars) => self.ask_args(u, vars.as_slice(), store, blocks),
+            Some(vars) => self.ask_args(vars.as_slice(), store, blocks),
             None => true,
         }
     }
 
     /// Asks that there are as many regions as entries, and of each region what the entry at its
     /// place says.
-    pub(crate) fn ask_regions(
-        &mut self,
-        u: &Uniquer,
-        entries: &[RegionEntry],
-        store: &Store,
-        op: OpId,
-    ) -> bool
-        requires slots { AreKnownIds (length u.now) self.old.slots.items }
+    pub(crate) fn ask_regions(&mut self, entries: &[RegionEntry], store: &Store, op: OpId) -> bool
         requires vars { RegionsAreBelow (length self.old.slots.items) entries.now }
-        requires known { AreKnown (length u.now) (types_in store.now) }
+        requires known { AreKnown (length self.old.u.now) (types_in store.now) }
         requires op { op.0 < length (ops_in store.now) }
         ensures { ForSome (op_at store.now op) (λ x.
-            Asked u.now self.old.slots.items self.new.slots.items result
-            (λ a. RegionsHave a entries.now (regions_seen u.now x.regions))) }
+            Asked self.old self.new result
+            (λ a. RegionsHave a entries.now (regions_seen self.old.u.now x.regions))) }
     {
         let regions = store.regions_of(op);
         if regions.len() != entries.len() {
             return false;
         }
         for (i, entry) in entries.iter().enumerate() {
-            if !self.ask_region(u, entry, store, regions[i]) {
+            if !self.ask_region(entry, store, regions[i]) {
                 return false;
             }
         }

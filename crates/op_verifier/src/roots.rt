@@ -8,7 +8,7 @@ use arrayvec::ArrayVec;
 use attr_value::ValueId;
 use dialect_defs::{VARIABLE_LIMIT, VarId};
 
-impl Wanted {
+impl Wanted<'_> {
     /// Each variable of which a value is asked, with it.
     pub(crate) fn roots(&self) -> ArrayVec<(VarId, ValueId), VARIABLE_LIMIT>
         ensures { result.items ≡ roots_of 0 self.now.slots.items }

@@ -5,23 +5,28 @@ ghost use Rattle.std.specs.List.{AllByRecursion};
 ghost use Rattle.attr_value.specs.Ids.{at};
 ghost use Rattle.dialect_defs.specs.Assignments.{Has};
 ghost use Rattle.constraint_solver.specs.Roots.{AreKnownIds};
-ghost use Rattle.op_verifier.specs.Asked.{Asked};
 
 use arrayvec::ArrayVec;
 use attr_uniquer::Uniquer;
 use attr_value::ValueId;
 use dialect_defs::{VARIABLE_LIMIT, VarId};
 
-/// For each variable of a body the value that is asked of it, if one is.
+/// For each variable of a body the value that is asked of it, if one is. The values are those of a
+/// table.
 #[derive(Drop)]
-pub(crate) struct Wanted {
+pub(crate) struct Wanted<'u> {
+    pub(crate) u: &'u Uniquer,
     pub(crate) slots: ArrayVec<Option<ValueId>, VARIABLE_LIMIT>,
+    pub(crate) ghost known: { AreKnownIds (length u.now) slots.items },
 }
 
-impl Wanted {
+impl<'u> Wanted<'u> {
+    ghost use Rattle.op_verifier.specs.Asked.{Asked};
+
     /// Nothing is asked of so many variables.
-    pub(crate) fn new(count: usize) -> Wanted
+    pub(crate) fn new(u: &'u Uniquer, count: usize) -> Wanted<'u>
         requires { count ≤ VARIABLE_LIMIT }
+        ensures table { result.u.now ≡ u.now }
         ensures size { length result.slots.items ≡ count }
         ensures none { AllByRecursion (λ slot. slot ≡ None) result.slots.items }
     {
@@ -29,23 +34,22 @@ impl Wanted {
         for _ in 0..count {
             slots.push(None);
         }
-        Wanted { slots }
+        Wanted { u, slots }
     }
 
     /// Asks a value of a variable. Whether no other was asked of it before.
-    pub(crate) fn ask(&mut self, u: &Uniquer, var: VarId, id: ValueId) -> bool
-        requires known { AreKnownIds (length u.now) self.old.slots.items }
+    pub(crate) fn ask(&mut self, var: VarId, id: ValueId) -> bool
         requires var { var.0 < length self.old.slots.items }
-        requires id { id.0 < length u.now }
-        ensures { Asked u.now self.old.slots.items self.new.slots.items result
-            (λ a. Has a var (at u.now id.0)) }
+        requires id { id.0 < length self.old.u.now }
+        ensures { Asked self.old self.new result
+            (λ a. Has a var (at self.old.u.now id.0)) }
     {
         match self.slots[var.0] {
             None => {
                 self.slots[var.0] = Some(id);
                 true
             }
-            Some(other) => u.same(other, id),
+            Some(other) => self.u.same(other, id),
         }
     }
 }

@@ -1,4 +1,4 @@
-use Rattle.std.proofs.Common.{◌∙◌, ap, sym}
+use Rattle.std.proofs.Common.{◌∙◌, ap, sym, refl}
 use Rattle.std.specs.List.{zip}
 use Rattle.dialect_defs.specs.Operations.{attr_at}
 use Rattle.op_verifier.proofs.Found.{attr_at-attrs_seen, key-known, value_of}
@@ -12,22 +12,30 @@ ask-requires-clause-id c =
 
 pub returns-in-Some : goal.returns-in-Some
 returns-in-Some c =
+    let values = c.args.self.now.u.now in
     let e =
-    attr_at-attrs_seen c.args.u.now c.args.row.now.keys c.args.row.now.values
+    attr_at-attrs_seen values c.args.row.now.keys c.args.row.now.values
     c.args.entry.now.name
-    ∙ ap (λ key. value_of c.args.u.now (attr_at (zip c.args.row.now.keys c.args.row.now.values)
+    ∙ ap (λ key. value_of values (attr_at (zip c.args.row.now.keys c.args.row.now.values)
     key))
     (sym c.bytes.ensures)
-    ∙ ap (value_of c.args.u.now) (sym c.attribute.ensures ∙ c.in-Some.is) in
-    attr-there c.args.u.now c.args.entry.now _ _ _ _ _ e c.ask.ensures
+    ∙ ap (value_of values) (sym c.attribute.ensures ∙ c.in-Some.is) in
+    record {
+      same = c.ask.ensures.same;
+      decides = attr-there values c.args.entry.now _ _ _ _ _ e c.ask.ensures.decides;
+    }
 
 pub returns-in-None : goal.returns-in-None
 returns-in-None c =
+    let values = c.args.self.now.u.now in
     let e =
-    attr_at-attrs_seen c.args.u.now c.args.row.now.keys c.args.row.now.values
+    attr_at-attrs_seen values c.args.row.now.keys c.args.row.now.values
     c.args.entry.now.name
-    ∙ ap (λ key. value_of c.args.u.now (attr_at (zip c.args.row.now.keys c.args.row.now.values)
+    ∙ ap (λ key. value_of values (attr_at (zip c.args.row.now.keys c.args.row.now.values)
     key))
     (sym c.bytes.ensures)
-    ∙ ap (value_of c.args.u.now) (sym c.attribute.ensures ∙ c.in-None.is) in
-    attr-missing c.args.u.now c.args.entry.now _ _ e c.requires.slots
+    ∙ ap (value_of values) (sym c.attribute.ensures ∙ c.in-None.is) in
+    record {
+      same = refl;
+      decides = attr-missing values c.args.entry.now _ _ e c.args.self.now.known;
+    }

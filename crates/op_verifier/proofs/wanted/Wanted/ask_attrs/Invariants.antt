@@ -1,4 +1,4 @@
-use Rattle.std.proofs.Common.{drop}
+use Rattle.std.proofs.Common.{◌≡◌, drop}
 use Rattle.std.specs.List.{AllByRecursion}
 use Rattle.dialect_defs.specs.Operations.{AttrHas, attr_at}
 use Rattle.op_verifier.specs.Asked.{Rest}
@@ -6,10 +6,12 @@ use Rattle.op_verifier.specs.Seen.{attrs_seen}
 use Rattle.op_verifier.proofs.wanted.Wanted.ask_attrs.Given as goal
 
 abbrev pub invariant-loop-entry : goal.invariant-loop-entry
-invariant-loop-entry l =
-    Rest l.u l.fn.self.slots.items l.self.slots.items
-    (λ a. AllByRecursion (λ entry. AttrHas a entry
-    (attr_at (attrs_seen l.u l.row.keys l.row.values) entry.name)) l.entries)
-    (λ a. AllByRecursion (λ entry. AttrHas a entry
-    (attr_at (attrs_seen l.u l.row.keys l.row.values) entry.name))
-    (drop l.entry-index l.entries))
+invariant-loop-entry l = record {
+  same : l.self.u.now ≡ l.fn.self.u.now;
+  rest : Rest l.fn.self.u.now l.fn.self.slots.items l.self.slots.items
+      (λ a. AllByRecursion (λ entry. AttrHas a entry
+      (attr_at (attrs_seen l.fn.self.u.now l.row.keys l.row.values) entry.name)) l.entries)
+      (λ a. AllByRecursion (λ entry. AttrHas a entry
+      (attr_at (attrs_seen l.fn.self.u.now l.row.keys l.row.values) entry.name))
+      (drop l.entry-index l.entries));
+}

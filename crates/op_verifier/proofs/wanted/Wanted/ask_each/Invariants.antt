@@ -1,4 +1,4 @@
-use Rattle.std.proofs.Common.{◌+◌, ◌-◌, drop, length}
+use Rattle.std.proofs.Common.{◌≡◌, ◌+◌, ◌-◌, drop, length}
 use Rattle.dialect_defs.specs.Assignments.{HaveEach}
 use Rattle.op_verifier.specs.Asked.{Rest}
 use Rattle.op_verifier.specs.Parts.{types_from}
@@ -6,8 +6,11 @@ use Rattle.op_verifier.specs.Seen.{values_at}
 use Rattle.op_verifier.proofs.wanted.Wanted.ask_each.Given as goal
 
 abbrev pub invariant-loop-i : goal.invariant-loop-i
-invariant-loop-i l =
-    Rest l.u l.fn.self.slots.items l.self.slots.items
-    (λ a. HaveEach a l.vars (values_at l.u (types_from l.store l.first (length l.vars))))
-    (λ a. HaveEach a (drop l.i l.vars)
-    (values_at l.u (types_from l.store (l.first + l.i) (length l.vars - l.i))))
+invariant-loop-i l = record {
+  same : l.self.u.now ≡ l.fn.self.u.now;
+  rest : Rest l.fn.self.u.now l.fn.self.slots.items l.self.slots.items
+      (λ a. HaveEach a l.vars
+      (values_at l.fn.self.u.now (types_from l.store l.first (length l.vars))))
+      (λ a. HaveEach a (drop l.i l.vars)
+      (values_at l.fn.self.u.now (types_from l.store (l.first + l.i) (length l.vars - l.i))));
+}

@@ -1,10 +1,10 @@
-use Rattle.std.proofs.Common.{◌≤◌, length, refl, arith}
+use Rattle.std.proofs.Common.{◌∙◌, ◌≤◌, length, refl, arith}
 use Rattle.std.proofs.Math.ListN.{drop_of_length-le}
 use Rattle.std.proofs.lemmas.Option.{slice_get_read, slice_get-get_or}
 use Rattle.op_verifier.specs.Seen.{values_at}
 use Rattle.op_verifier.specs.Types.{ids_of}
-use Rattle.op_verifier.proofs.Asking.{rest-step, rest-refused, rest-end, Asked-true}
-use Rattle.op_verifier.proofs.Asking.{Asked-false}
+use Rattle.op_verifier.proofs.Asking.{rest-step, rest-refused, rest-end, Decides-true}
+use Rattle.op_verifier.proofs.Asking.{Decides-false}
 use Rattle.op_verifier.proofs.PartSteps.{segment-first, segment-joined, sum-next, all-entries}
 use Rattle.op_verifier.proofs.wanted.Wanted.ask_entries.Goals as goal
 
@@ -23,32 +23,39 @@ returns-then-not-ask_all c =
     let entry = slice_get_read c.args.entries.now _ c.loop-i.i c.index-entries-i.result
     refl c.loop-i-test.true c.index-entries-i.is in
     let size = slice_get-get_or c.args.sizes.now c.loop-i.i 0 (omega arith) in
-    let vs = values_at c.args.u.now (ids_of c.args.types.now) in
-    Asked-false (rest-refused c.loop-i.invariant.rest
-    (λ a have. (segment-first c.args.entries.now c.args.sizes.now vs c.loop-i.i c.loop-i.start
-    c.index-entries-i.result _ a entry size have).0)
-    (c.if-not-ask_all.ensures.refuses refl))
+    let vs = values_at c.args.self.now.u.now (ids_of c.args.types.now) in
+    record {
+      same = c.if-not-ask_all.ensures.same ∙ c.loop-i.invariant.same;
+      decides = Decides-false (rest-refused c.loop-i.invariant.rest
+          (λ a have. (segment-first c.args.entries.now c.args.sizes.now vs c.loop-i.i c.loop-i.start
+          c.index-entries-i.result _ a entry size have).0)
+          (rw c.loop-i.invariant.same at (c.if-not-ask_all.ensures.decides.refuses refl)));
+    }
 
 pub loop-i-preserved : goal.loop-i-preserved
 loop-i-preserved c =
     let entry = slice_get_read c.args.entries.now _ c.loop-i.i c.index-entries-i.result
     refl c.loop-i-test.true c.index-entries-i.is in
     let size = slice_get-get_or c.args.sizes.now c.loop-i.i 0 (omega arith) in
-    let vs = values_at c.args.u.now (ids_of c.args.types.now) in
+    let vs = values_at c.args.self.now.u.now (ids_of c.args.types.now) in
     record {
+      same = c.if-not-ask_all.ensures.same ∙ c.loop-i.invariant.same;
       total = omega (arith, sum-next c.args.sizes.now c.loop-i.i _ size);
       rest = rest-step c.loop-i.invariant.rest
           (λ a have. segment-first c.args.entries.now c.args.sizes.now vs c.loop-i.i c.loop-i.start
           c.index-entries-i.result _ a entry size have)
           (λ a here later. segment-joined c.args.entries.now c.args.sizes.now vs c.loop-i.i
           c.loop-i.start c.index-entries-i.result _ a entry size here later)
-          (c.if-not-ask_all.ensures.asks refl);
+          (rw c.loop-i.invariant.same at (c.if-not-ask_all.ensures.decides.asks refl));
     }
 
 pub returns : goal.returns
 returns c =
     let past : length c.args.sizes.now ≤ c.loop-i.i = omega arith in
-    Asked-true (rest-end c.loop-i.invariant.rest
-    (λ a. all-entries a c.args.entries.now c.args.sizes.now c.loop-i.i _
-    (drop_of_length-le c.args.entries.now {i = c.loop-i.i} c.loop-i-test.false)
-    (drop_of_length-le c.args.sizes.now {i = c.loop-i.i} past)))
+    record {
+      same = c.loop-i.invariant.same;
+      decides = Decides-true (rest-end c.loop-i.invariant.rest
+          (λ a. all-entries a c.args.entries.now c.args.sizes.now c.loop-i.i _
+          (drop_of_length-le c.args.entries.now {i = c.loop-i.i} c.loop-i-test.false)
+          (drop_of_length-le c.args.sizes.now {i = c.loop-i.i} past)));
+    }

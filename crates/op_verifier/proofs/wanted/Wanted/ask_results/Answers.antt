@@ -1,4 +1,7 @@
 use Rattle.op_verifier.proofs.wanted.Wanted.ask_results.Goals as goal
 
 pub returns : goal.returns
-returns c = rw (c.sizes_given-given.ensures, c.as_slice.ensures) at c.ask_segments.ensures
+returns c = record {
+  same = c.ask_segments.ensures.same;
+  decides = rw (c.sizes_given-given.ensures, c.as_slice.ensures) at c.ask_segments.ensures.decides;
+}
