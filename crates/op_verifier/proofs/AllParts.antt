@@ -80,7 +80,6 @@ module _ (values : List Value) (d : OpDef) (o : Operation) (s0 s1 s2 s3 : Slots)
       → Asks values s0 s4 (HasParts d o)
   parts-ask s4 successors first second third fourth = record {
     size = fourth.size ∙ third.size ∙ second.size ∙ first.size;
-    known = fourth.known;
     down = λ a w has.
         let one = (first.down a w has.operands).0 in
         let two = (second.down a one has.results).0 in

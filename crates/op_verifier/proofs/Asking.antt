@@ -1,18 +1,15 @@
 -- How questions follow one another.
-use Rattle.std.proofs.Common.{◌∙◌, ◌↔◌, Bool, true, false, IsTrue, true≢false, List, length}
+use Rattle.std.proofs.Common.{◌∙◌, ◌↔◌, Bool, true, false, IsTrue, true≢false, List}
 use Rattle.std.proofs.Common.{refl, sym}
 use Rattle.attr_value.specs.Values.{Value}
 use Rattle.dialect_defs.specs.Assignments.{Assignment}
-use Rattle.constraint_solver.specs.Roots.{AreKnownIds}
 use Rattle.op_verifier.specs.Asked.{Slots, Rest, Asks, Refuses, Decides}
 
 module _ {values : List Value} where
   -- at first all is left
-  pub rest-start : (s : Slots) (Q : Assignment → Type 0) → AreKnownIds (length values) s
-      → Rest values s s Q Q
-  rest-start s Q known = record {
+  pub rest-start : (s : Slots) (Q : Assignment → Type 0) → Rest values s s Q Q
+  rest-start s Q = record {
     size = refl;
-    known = known;
     down = λ a w q. (w, q);
     up = λ a w q. (w, q);
   }
@@ -23,7 +20,6 @@ module _ {values : List Value} where
       → ((a : Assignment) → P a → S a → R a) → Asks values now new P → Rest values old new Q S
   rest-step r split join asks = record {
     size = asks.size ∙ r.size;
-    known = asks.known;
     down = λ a w q.
         let before = r.down a w q in
         let parts = split a before.1 in
@@ -45,7 +41,6 @@ module _ {values : List Value} where
       → ((a : Assignment) → R a) → Asks values old now Q
   rest-end r all = record {
     size = r.size;
-    known = r.known;
     down = λ a w q. ((r.down a w q).0, tt);
     up = λ a w u. r.up a w (all a);
   }
@@ -60,7 +55,6 @@ module _ {values : List Value} where
       → ((a : Assignment) → R a → S a) → ((a : Assignment) → S a → R a) → Rest values old now Q S
   rest-as r to from = record {
     size = r.size;
-    known = r.known;
     down = λ a w q. let now = r.down a w q in (now.0, to a now.1);
     up = λ a w s. r.up a w (from a s);
   }
@@ -70,7 +64,6 @@ module _ {values : List Value} where
       → ((a : Assignment) → Q a → P a) → ((a : Assignment) → P a → Q a) → Rest values old now P R
   rest-of r to from = record {
     size = r.size;
-    known = r.known;
     down = λ a w p. r.down a w (from a p);
     up = λ a w s. let before = r.up a w s in (before.0, to a before.1);
   }
@@ -100,9 +93,9 @@ module _ {values : List Value} where
 
   -- a test of what doesn't speak of variables
   pub Decides-test : {s : Slots} {taken : Bool} {Q : Assignment → Type 0}
-      → AreKnownIds (length values) s → ((a : Assignment) → IsTrue taken ↔ Q a)
+      → ((a : Assignment) → IsTrue taken ↔ Q a)
       → Decides values s s taken Q
-  Decides-test {s = s} {Q = Q} known says = record {
-    asks = λ yes. rest-end (rest-start s Q known) (λ a. (says a).0 yes);
+  Decides-test {s = s} {Q = Q} says = record {
+    asks = λ yes. rest-end (rest-start s Q) (λ a. (says a).0 yes);
     refuses = λ no. record { none = λ a w q. true≢false (sym ((says a).1 q) ∙ no) };
   }

@@ -12,7 +12,6 @@ use Rattle.dialect_defs.specs.declared.entry.Entry.{Entry}
 use Rattle.dialect_defs.specs.Assignments.{Assignment, Has}
 use Rattle.dialect_defs.specs.Operations.{EntriesHave, AttrHas}
 use Rattle.dialect_defs.specs.Segments.{Segments, parts}
-use Rattle.constraint_solver.specs.Roots.{AreKnownIds}
 use Rattle.op_verifier.specs.Asked.{Slots, Refuses, Decides}
 use Rattle.op_verifier.specs.Parts.{HasSegments}
 use Rattle.op_verifier.proofs.Asking.{Decides-as, Decides-test}
@@ -28,10 +27,10 @@ module _ (values : List Value) (entry : AttrEntry) where
       (λ a has. subst (AttrHas a entry) e has) asked
 
   -- one that is missing has to be optional
-  pub attr-missing : (s : Slots) (o : Option Value) → o ≡ None → AreKnownIds (length values) s
+  pub attr-missing : (s : Slots) (o : Option Value) → o ≡ None
       → Decides values s s entry.optional (λ a. AttrHas a entry o)
-  attr-missing s o e known =
-      Decides-test known (λ a. (
+  attr-missing s o e =
+      Decides-test (λ a. (
         λ yes. subst (AttrHas a entry) (sym e) yes,
         λ has. subst (AttrHas a entry) e has,
       ))

@@ -19,7 +19,6 @@ use Rattle.ir_store.specs.Named.{AreBlocks, AreRegions, HaveTypes, block_at, reg
 use Rattle.ir_store.specs.Numbering.{Numbers, BlockSite, RegionSite, past_block, behind}
 use Rattle.ir_store.specs.Numbering.{past_region, behind_blocks}
 use Rattle.ir_store.specs.Store.{OpName, Module}
-use Rattle.constraint_solver.specs.Roots.{AreKnownIds}
 use Rattle.op_verifier.specs.Asked.{Slots, Rest, Asks, Refuses, Decides}
 use Rattle.op_verifier.specs.Parts.{types_from}
 use Rattle.op_verifier.specs.Seen.{type_in, values_at, blocks_seen, regions_seen}
@@ -204,10 +203,10 @@ module _ (values : List Value) (m : Module) (vars : List VarId) (id : BlockId)
 
 -- no arguments are declared
 pub any-args : (values : List Value) (vars : Option (List VarId)) (seen : List (List Value))
-    (s : Slots) → AreKnownIds (length values) s → vars ≡ None
+    (s : Slots) → vars ≡ None
     → Asks values s s (λ a. ArgsHave a vars seen)
-any-args values vars seen s known none =
-    rest-end (rest-start s (λ a. ArgsHave a vars seen) known)
+any-args values vars seen s none =
+    rest-end (rest-start s (λ a. ArgsHave a vars seen))
     (λ a. subst (λ o. ArgsHave a o seen) (sym none) tt)
 
 -- ---- regions
@@ -238,13 +237,13 @@ pub record RegionsLeft (values : List Value) (m : Module) (entries : List Region
 -- at first all regions are left
 pub regions-start : (values : List Value) (m : Module) (c : Numbers) (entries : List RegionEntry)
     (ids : List RegionId) (s : Slots) (regions : Regions OpName ValueId)
-    → AreKnownIds (length values) s → AreRegions m c ids regions
+    → AreRegions m c ids regions
     → RegionsLeft values m entries ids 0 s s regions
-regions-start values m c entries ids s regions known are = record {
+regions-start values m c entries ids s regions are = record {
   left = regions;
   c = c;
   are = are;
-  rest = rest-start s (λ a. RegionsHave a entries (regions_seen values regions)) known;
+  rest = rest-start s (λ a. RegionsHave a entries (regions_seen values regions));
 }
 
 -- the next region

@@ -13,7 +13,7 @@ use Rattle.std.specs.Prelude.{◌≡◌, Bool, false, IsTrue, List, length}
 use Rattle.std.specs.declared.option.Option.{Option}
 use Rattle.attr_value.specs.declared.head.ValueId.{ValueId}
 use Rattle.attr_value.specs.Values.{Value}
-use Rattle.constraint_solver.specs.Roots.{assigned, AreKnownIds}
+use Rattle.constraint_solver.specs.Roots.{assigned}
 use Rattle.dialect_defs.specs.Assignments.{Assignment, IsWithin}
 use Rattle.op_verifier.specs.declared.wanted.Wanted.{Wanted}
 
@@ -25,7 +25,6 @@ Slots = List (Option ValueId)
 -- what is left to ask of Q.
 pub record Rest (values : List Value) (old now : Slots) (Q R : Assignment → Type 0) : Type 0 where
   pub size : length now ≡ length old
-  pub known : AreKnownIds (length values) now
   pub down : (a : Assignment) → IsWithin (assigned values old) a → Q a
       → IsWithin (assigned values now) a × R a
   pub up : (a : Assignment) → IsWithin (assigned values now) a → R a

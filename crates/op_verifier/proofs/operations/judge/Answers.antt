@@ -35,7 +35,9 @@ solve-requires-clause-roots g c =
     ((c.if-not-ask_parts.ensures x.0 x.1).decides.asks refl) in
     roots-sound (length c.args.u.now) c.args.def.now.body c.ask_parts.new.self.slots.items
     c.as_slice-2.result.now (c.as_slice-2.ensures.value ∙ c.roots-roots.ensures)
-    (asks.size ∙ c.new-wanted.ensures.size ∙ ap length c.as_slice.ensures) asks.known
+    (asks.size ∙ c.new-wanted.ensures.size ∙ ap length c.as_slice.ensures)
+    (rw ((c.if-not-ask_parts.ensures x.0 x.1).same ∙ c.new-wanted.ensures.table) at
+    c.ask_parts.new.self.known)
 
 pub returns : goal.returns
 returns g c =

@@ -28,8 +28,7 @@ returns-in-None c =
       decides = subst (λ new. Decides values s new true (λ a. Has a c.args.var (at values
           c.args.id.0)))
           (sym (written ∙ same))
-          (Decides-true (ask-first values s c.args.var c.args.id c.args.self.now.known
-          c.requires.id free c.requires.var));
+          (Decides-true (ask-first values s c.args.var c.args.id free c.requires.var));
     }
 
 pub returns-in-Some : goal.returns-in-Some
@@ -41,7 +40,7 @@ returns-in-Some c =
       same = refl;
       decides = record {
         asks = λ yes. ask-again c.args.self.now.u.now s c.args.var c.args.id c.in-Some.other
-            c.args.self.now.known has (c.same.ensures.same.0 yes);
+            has (c.same.ensures.same.0 yes);
         refuses = λ no. ask-other c.args.self.now.u.now s c.args.var c.args.id c.in-Some.other has
             (λ same. true≢false (sym (c.same.ensures.same.1 same) ∙ no));
       };

@@ -37,5 +37,5 @@ returns-in-None c =
     ∙ ap (value_of values) (sym c.attribute.ensures ∙ c.in-None.is) in
     record {
       same = refl;
-      decides = attr-missing values c.args.entry.now _ _ e c.args.self.now.known;
+      decides = attr-missing values c.args.entry.now _ _ e;
     }

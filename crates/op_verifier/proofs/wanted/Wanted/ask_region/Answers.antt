@@ -64,5 +64,5 @@ returns-in-None c =
           c.args.self.now.slots.items c.args.self.now.slots.items true
           (subst (λ k. IfSome c.args.entry.now.size (λ n. k ≡ n)) count size)
           (Decides-true (any-args values _ (blocks_seen values x.blocks)
-          c.args.self.now.slots.items c.args.self.now.known c.in-None.is));
+          c.args.self.now.slots.items c.in-None.is));
     }

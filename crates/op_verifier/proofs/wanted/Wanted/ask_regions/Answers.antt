@@ -23,7 +23,7 @@ loop-i-init c = record {
   size = refl;
   state = λ x e. regions-start c.args.self.now.u.now c.args.store.now (past_op x.at x.head)
       c.args.entries.now c.regions_of-regions.result.now c.args.self.now.slots.items x.regions
-      c.args.self.now.known (c.regions_of-regions.ensures x e);
+      (c.regions_of-regions.ensures x e);
 }
 
 pub ask_region-requires-clause-region : goal.ask_region-requires-clause-region
