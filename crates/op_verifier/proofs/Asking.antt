@@ -45,20 +45,6 @@ module _ {values : List Value} where
     up = λ a w u. r.up a w (all a);
   }
 
-  -- what is left can't be had
-  pub rest-never : {old now : Slots} {Q R : Assignment → Type 0} → Rest values old now Q R
-      → ((a : Assignment) → R a → ⊥) → Refuses values old Q
-  rest-never r never = record { none = λ a w q. never a (r.down a w q).1 }
-
-  -- what is left, said otherwise
-  pub rest-as : {old now : Slots} {Q R S : Assignment → Type 0} → Rest values old now Q R
-      → ((a : Assignment) → R a → S a) → ((a : Assignment) → S a → R a) → Rest values old now Q S
-  rest-as r to from = record {
-    size = r.size;
-    down = λ a w q. let now = r.down a w q in (now.0, to a now.1);
-    up = λ a w s. r.up a w (from a s);
-  }
-
   -- the same of the whole
   pub rest-of : {old now : Slots} {Q P R : Assignment → Type 0} → Rest values old now Q R
       → ((a : Assignment) → Q a → P a) → ((a : Assignment) → P a → Q a) → Rest values old now P R

@@ -12,7 +12,7 @@ use Rattle.dialect_defs.specs.declared.entry.Entry.{Entry}
 use Rattle.dialect_defs.specs.Assignments.{Assignment, Has}
 use Rattle.dialect_defs.specs.Operations.{EntriesHave, AttrHas}
 use Rattle.dialect_defs.specs.Segments.{Segments, parts}
-use Rattle.op_verifier.specs.Asked.{Slots, Refuses, Decides}
+use Rattle.op_verifier.specs.Asked.{Slots, Decides}
 use Rattle.op_verifier.specs.Parts.{HasSegments}
 use Rattle.op_verifier.proofs.Asking.{Decides-as, Decides-test}
 use Rattle.op_verifier.proofs.Walks.{drop-next}
@@ -105,12 +105,3 @@ module _ (values : List Value) (entries : List Entry) (vs : List Value) (given :
         (sym (only h.sizes
         (subst (λ m. Segments entries m given h.sizes) (sym count) h.segments)))
         h.have) asked
-
-    -- values that fall into no segments are refused
-    pub no-segments : (s : Slots) (n : ℕ) → n ≡ length vs
-        → ((sizes : List ℕ) → Segments entries n given sizes → ⊥)
-        → Refuses values s (λ a. HasSegments a entries vs given)
-    no-segments s n count never = record {
-      none = λ a w h. never h.sizes
-          (subst (λ m. Segments entries m given h.sizes) (sym count) h.segments);
-    }

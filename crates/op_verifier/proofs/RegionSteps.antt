@@ -141,14 +141,6 @@ first-block m c values (x ∷ xs) id (block args ops bs) are e =
       seen = refl;
     }
 
--- where there is no id, there is no block
-pub no-block : (m : Module) (c : Numbers) (values : List Value) (ids : List BlockId)
-    (bs : Blocks OpName ValueId) → AreBlocks m c ids bs → length ids ≡ 0
-    → blocks_seen values bs ≡ []
-no-block m c values [] no_blocks are none = refl
-no-block m c values [] (block args ops bs) are none = absurd are
-no-block m c values (x ∷ xs) bs are none = absurd (omega arith)
-
 -- there are as many ids as blocks
 pub blocks-count : (m : Module) (c : Numbers) (values : List Value) (ids : List BlockId)
     (bs : Blocks OpName ValueId) → AreBlocks m c ids bs

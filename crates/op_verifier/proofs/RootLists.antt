@@ -103,13 +103,6 @@ roots-ids n len (None ∷ slots) known = roots-ids (n + 1) len slots (λ i id e.
 roots-ids n len (Some id ∷ slots) known =
     (known 0 id refl, roots-ids (n + 1) len slots (λ i id e. known (suc i) id e))
 
--- where nothing is asked, all that is asked is known
-pub none-known : (len : ℕ) (slots : Slots) → AllByRecursion (λ slot. slot ≡ None) slots
-    → AreKnownIds len slots
-none-known len [] all i id e = cc
-none-known len (slot ∷ slots) all zero id e = let none : slot ≡ None = all.0 in cc
-none-known len (slot ∷ slots) all (suc i) id e = none-known len slots all.1 i id e
-
 -- where nothing is asked, each map has it
 pub none-within : (values : List Value) (slots : Slots) → AllByRecursion (λ slot. slot ≡ None) slots
     → (a : Assignment) → IsWithin (assigned values slots) a
