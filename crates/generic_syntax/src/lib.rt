@@ -7,6 +7,7 @@
 
 mod cst;
 mod leaf;
+mod module_cst;
 mod name;
 mod parse;
 mod token;
@@ -15,6 +16,10 @@ mod word;
 
 pub use cst::{EntryCst, ItemCst, NameCst, ValueCst, ValueNode};
 pub use grammar::{SyntaxCode, SyntaxStop};
+pub use module_cst::{
+    AliasCst, ArgCst, BlockCst, CustomCst, FormCst, GenericCst, ModuleCst, NumberCst, OpCst,
+    PartCst, RegionCst, ResultCst, UseCst,
+};
 pub use name::{read_name, read_word};
 pub use parse::{TOO_DEEP, parse_type, parse_value};
 pub use word::read_integer_type;
