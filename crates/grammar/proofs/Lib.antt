@@ -15,10 +15,12 @@ pub mod Unique
 pub mod Kept
 pub mod Gone
 pub mod Runs
+pub mod Inside
 pub mod Repeats
 pub mod Lists
 pub mod Codes
 pub mod Fronts
+pub mod Known
 pub mod FlatReads
 pub mod Wholes
 pub mod Widths

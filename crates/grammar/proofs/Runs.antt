@@ -7,7 +7,7 @@
 --   both-first, both-second, both-ok   of two pieces: stopped in the first, in the second, or read
 --   left, right                        of a choice, by the present token
 --   made-ok, made-err                  of a piece that stands for something else
---   at-tok                             a token
+--   at-tok, at-refused                 a token, or one that is refused
 --   took-token, took-refused, ..       one token, by the test and the step
 --   exit                               what the exit of a `?` hands on
 use Rattle.std.proofs.Common.{◌≡◌, ◌≢◌, ℕ, ◌+◌, ◌≤◌, ◌<◌, Bool, true, false, ◌&&◌, ◌||◌, [], ◌∷◌, ◌++◌, Some, Result, Ok, Err, OnOk, if◌then◌else◌, arith, refl, sym, ◌∙◌, ap, append_assoc}
@@ -63,11 +63,12 @@ memory k p s =
 
 -- ---- one token
 
--- the present token fails the test and is refused
-pub tok-refused : {A : Type 0} (test : Token → Bool) (f : Token → A) (s : Source) (e : SyntaxStop)
-    → test s.now ≡ false → e ≡ At s.now.place (code_by_class s.now.class)
-    → Ran 1 (read_tok false test f) s (Err e) s
-tok-refused test f s e h is = rw is (record {
+-- the present token fails the test and is refused, whether or not a value may begin with one that
+-- passes
+pub tok-refused : {A : Type 0} (deep : Bool) (test : Token → Bool) (f : Token → A) (s : Source)
+    (e : SyntaxStop) → test s.now ≡ false → e ≡ At s.now.place (code_by_class s.now.class)
+    → Ran 1 (read_tok deep test f) s (Err e) s
+tok-refused deep test f s e h is = rw is (record {
   kept = record {
     faults = omega arith;
     cause = tt;
@@ -322,7 +323,7 @@ took-token {test = test} {f = f} {u = u} {s = s} {s' = s'} passed order ends oth
 pub took-refused : {A : Type 0} {test : Token → Bool} {f : Token → A} {e : SyntaxStop} {s : Source}
     → test s.now ≡ false → e ≡ At s.now.place (code_by_class s.now.class) → Took test f s (Err e) s
 took-refused {test = test} {f = f} {e = e} {s = s} failed is =
-    record { ran = tok-refused test f s e failed is }
+    record { ran = tok-refused false test f s e failed is }
 
 -- a token behind which the source failed
 pub took-failed : {A : Type 0} {test : Token → Bool} {f : Token → A} {x : TokenStop} {s s' : Source}
@@ -377,6 +378,14 @@ module _ {X : Type 0} {Sem : X → Type 0} {e : Env X Sem} where
       → Took (passes look) f s r s' → Reads e (tok false look f) s r s'
   unfolding reads_in
   at-tok h = record { ran = h.ran }
+
+  -- a token is refused, whether or not it also begins a value
+  pub at-refused : {A : Type 0} {key : Bool} (look : Look) {f : Token → A} {s : Source}
+      {why : SyntaxStop} → passes look s.now ≡ false
+      → why ≡ At s.now.place (code_by_class s.now.class) → Reads e (tok key look f) s (Err why) s
+  unfolding reads_in
+  at-refused {key = key} look {f = f} {s = s} {why = why} h is =
+      record { ran = tok-refused (key && e.none) (passes look) f s why h is }
 
   -- memory ran out before a piece
   pub no-memory : {A : Type 0} {g : G X Sem A} {s : Source} → Reads e g s (Err OutOfMemory) s
