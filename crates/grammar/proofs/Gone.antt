@@ -3,7 +3,7 @@
 -- A call that took no token went over none (`gone-none`), a step over the present one (`gone-one`),
 -- and two calls over the tokens of the first and then those of the second (`gone-then`). What a
 -- reader does on such tokens is known from the token at which the source stood (`head-is`).
-use Rattle.std.proofs.Common.{◌≡◌, ◌≢◌, ◌+◌, ◌≤◌, ◌<◌, ℕ, Bool, List, [], ◌∷◌, ◌++◌, Some, Ok, refl, sym, ◌∙◌, ap, subst, arith, append_assoc, inl, inr}
+use Rattle.std.proofs.Common.{◌≡◌, ◌≢◌, ◌≤◌, ◌<◌, ℕ, Bool, List, [], ◌∷◌, ◌++◌, Some, Ok, refl, sym, ◌∙◌, ap, subst, arith, append_assoc, inl, inr}
 use Rattle.std.specs.List.{AllByRecursion}
 use Rattle.ir_lexer.specs.declared.class.Class.TheVariants as class
 use Rattle.ir_lexer.specs.Source.{Source, IsToken, PlacesAscend, IsInOrder, Advances}

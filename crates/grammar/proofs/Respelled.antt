@@ -3,7 +3,7 @@
 -- A piece asks of each token one look. So a token whose text doesn't spell its class may be changed
 -- for one whose text does and which meets the same look; the others stay. That each look of a
 -- grammar is met by such a token is a test that computes (`all_met`).
-use Rattle.std.proofs.Common.{◌≡◌, ℕ, zero, suc, ◌+◌, ◌<◌, Bool, true, false, ◌&&◌, ◌||◌, [], ◌∷◌, ◌++◌, ◌⊎◌, length, codes, inl, inr, refl, ap, subst, arith, nat_eq, eqb-true}
+use Rattle.std.proofs.Common.{◌≡◌, ℕ, zero, suc, Bool, true, false, ◌&&◌, ◌||◌, [], ◌∷◌, ◌++◌, ◌⊎◌, length, codes, inl, inr, refl, ap, subst, arith, nat_eq, eqb-true}
 use Rattle.ir_lexer.specs.declared.class.Class.{Class}
 use Rattle.ir_lexer.specs.declared.class.Class.TheVariants as c
 use Rattle.ir_lexer.specs.declared.table.TheConstants.{START}
