@@ -15,6 +15,7 @@ use Rattle.grammar.proofs.Choice.{empty-parts}
 use Rattle.grammar.proofs.Exact.{exact, deep-viable, no-deep}
 use Rattle.grammar.proofs.Firsts.{Kids, first, empty}
 use Rattle.grammar.proofs.Height.{derives-in, bounded}
+use Rattle.grammar.proofs.Known.{Known}
 use Rattle.grammar.proofs.More.{Checks, more, goes, one-token}
 use Rattle.grammar.proofs.Repeats.{Fits}
 use Rattle.grammar.proofs.Shrink.{Takes, tok-takes, takes-if}
@@ -206,11 +207,6 @@ value-meets zero x ts = at-zero x ts
 value-meets (suc n) x ts = meets-value x (deep (suc n) x) ts _
     (exact IsValue kid_starts kids samples begun (deep n) (deep-some n) (deep-seen n) (n == 0) (value_at n) (value-takes n) (value-meets n) (rule x) (one x) ts)
 
--- The same of any grammar over values that passes the check: definition files, for one.
-pub piece-meets : (n : ℕ) {A : Type 0} (g : OfValues A) → Checks kid_starts kid_more g → (ts : Tokens)
-    → IsExactAnswer (Derives IsValue g) (Deep IsValue (deep n) (n == 0) g) ts (reads kid_starts (value_at n) (n == 0) g ts)
-piece-meets n g l ts = exact IsValue kid_starts kids samples begun (deep n) (deep-some n) (deep-seen n) (n == 0) (value_at n) (value-takes n) (value-meets n) g (one-of-checks g l) ts
-
 -- ---- texts that spell their classes
 
 -- bytes can give a token for each look of a rule
@@ -228,3 +224,20 @@ derived-respelled (suc n) x ts v d =
 -- each value has a text of such tokens
 pub value-respelled : (x : Sort) → Respellable (IsValue x)
 value-respelled x ts v (n, d) = let u = derived-respelled n x ts v d in (u.0, u.1, u.2, (n, u.3))
+
+-- ---- all of it
+
+-- What a grammar over values asks of them is known, at each depth.
+pub values-known : (n : ℕ) → Known IsValue (deep n) value_looks value_more_looks (value_at n)
+values-known n = record {
+  kids = kids;
+  samples = samples;
+  begun = begun;
+  goes = value-goes;
+  one = one-value;
+  no_deep = deep-some n;
+  seen = deep-seen n;
+  takes = value-takes n;
+  meets = value-meets n;
+  respelled = value-respelled;
+}

@@ -4,3 +4,4 @@ pub mod Knot
 pub mod Rows
 pub mod Steps
 pub mod Parsing
+pub mod Above

@@ -4,19 +4,19 @@ use Rattle.generic_syntax.specs.declared.cst.ValueCst.{ValueCst}
 use Rattle.grammar.specs.Answers.{Told, Accepts, ReadsFront}
 use Rattle.grammar.specs.declared.stop.SyntaxStop.{SyntaxStop}
 use Rattle.grammar.specs.Ran.{Reads}
+use Rattle.grammar.proofs.Inside.{kid-went}
 use Rattle.grammar.proofs.Wholes.{accepts, front-answered, told-front}
 use Rattle.ir_lexer.specs.Source.{Source}
 use Rattle.generic_syntax.specs.Nested.{IsValue, deep, value_at, values_within}
 use Rattle.generic_syntax.specs.Values.{Sort, inner}
 use Rattle.generic_syntax.proofs.Knot.{value-meets, deep-seen, one-value, value-respelled}
-use Rattle.generic_syntax.proofs.Steps.{kid-went}
 
 -- the tree of the front, or the refusal, over every source
 pub parsed : (n : ℕ) (x : Sort) (s s' : Source) (r : Result ValueCst SyntaxStop)
     → Reads (values_within n) (inner x) s r s' → ReadsFront (IsValue x) (deep n x) s r s'
 parsed n x s s' r h =
     front-answered (IsValue x) (deep n x) (value_at n x) (value-meets n x) (value-respelled x) s s' r
-    (kid-went n x s s' r h)
+    (kid-went x h)
 
 -- where there is a front, its tree
 pub all-parsed : (n : ℕ) (x : Sort) (s s' : Source) (r : Result ValueCst SyntaxStop)

@@ -2,7 +2,6 @@
 --
 --   at-look        a token that passes a look, taken by its class
 --   at-words       one of some words
---   key-ok, ..     a token that also begins a value one deeper
 --   deeper, ..     a value that stands in another
 --   memory-after   memory ran out behind a piece
 use Rattle.std.proofs.Common.{◌≡◌, ℕ, zero, suc, ◌-◌, ◌<◌, Bool, true, false, ◌||◌, List, [], ◌∷◌, ◌++◌, Result, Ok, Err, ◌+◌, refl, sym, ◌∙◌, arith, codes, subst}
@@ -15,7 +14,8 @@ use Rattle.grammar.specs.Looks.{Look, any_of, word, int_word, passes, any, class
 use Rattle.grammar.specs.Ran.{Ran, Went, Env, reads_in, Took, Reads, code_by_class}
 use Rattle.grammar.proofs.Gone.{gone-none}
 use Rattle.grammar.proofs.Meet.{and-true}
-use Rattle.grammar.proofs.Runs.{at-tok, at-ret, left, right, went-as}
+use Rattle.grammar.proofs.Inside.{at-kid, tok-deep}
+use Rattle.grammar.proofs.Runs.{tok-refused, at-tok, at-refused, at-ret, left, right, went-as}
 use Rattle.ir_lexer.specs.declared.class.Class.TheVariants.{Word}
 use Rattle.ir_lexer.specs.Source.{Source}
 use Rattle.ir_lexer.specs.Spelling.{Text}
@@ -23,7 +23,7 @@ use Rattle.ir_lexer.specs.Tokens.{Token}
 use Rattle.generic_syntax.specs.Values.{Sort, Sem, rule, inner, one_of, type_word, type_words, list1}
 use Rattle.grammar.specs.Rules.{list}
 use Rattle.generic_syntax.specs.Begins.{Begins}
-use Rattle.generic_syntax.specs.Nested.{value_looks, value_at, values_within}
+use Rattle.generic_syntax.specs.Nested.{value_looks, no_tree, value_at, values_within}
 use Rattle.generic_syntax.proofs.OneToken.{full}
 use Rattle.generic_syntax.proofs.Knot.{starts-rule, rule-starts}
 
@@ -70,75 +70,6 @@ module _ {X : Type 0} {Sem : X → Type 0} {e : Env X Sem} where
       → passes l s.now ≡ true → Took (passes (any_of (class_of l))) f s r s' → Reads e (tok false l f) s r s'
   at-look l {s = s} h x = at-tok (took-as (by-class l s.now h ∙ sym h) x)
 
-  -- a token that also begins a value one deeper, where one may
-  pub key-ok : {A : Type 0} (l : Look) {f : Token → A} {s s' : Source} {r : Result A SyntaxStop}
-      → e.none ≡ false → Took (passes l) f s r s' → Reads e (tok true l f) s r s'
-  unfolding reads_in
-  key-ok l {r = r} none x = record {
-    ran = record {
-      kept = x.ran.kept;
-      less = x.ran.less;
-      went = went-as _ _ r (λ front y rest. rw none refl) x.ran.went;
-    };
-  }
-
-  -- the same, where none may
-  pub key-deep : {A : Type 0} (l : Look) {f : Token → A} {s : Source} {why : SyntaxStop}
-      → e.none ≡ true → passes l s.now ≡ true → why ≡ At s.now.place Nesting → Reads e (tok true l f) s (Err why) s
-  unfolding reads_in
-  key-deep l {s = s} none h is = rw is (record {
-    ran = record {
-      kept = record { faults = omega arith; cause = tt; origin = refl; steady = λ h. h; goes_on = refl };
-      less = tt;
-      went = record {
-        front = [];
-        gone = gone-none s;
-        deep = true;
-        place_is = refl;
-        code_is = refl;
-        stops = λ rest. rw (none, h) refl;
-      };
-    };
-  })
-
-  -- the same token is refused
-  pub key-refused : {A : Type 0} (l : Look) {f : Token → A} {s : Source} {why : SyntaxStop}
-      → passes l s.now ≡ false → why ≡ At s.now.place (code_by_class s.now.class) → Reads e (tok true l f) s (Err why) s
-  unfolding reads_in
-  key-refused l {s = s} h is = rw is (record {
-    ran = record {
-      kept = record { faults = omega arith; cause = tt; origin = refl; steady = λ h. h; goes_on = refl };
-      less = tt;
-      went = record {
-        front = [];
-        gone = gone-none s;
-        deep = false;
-        place_is = refl;
-        code_is = refl;
-        stops = λ rest. rw h refl;
-      };
-    };
-  })
-
-  -- a token is refused
-  pub tok-refused : {A : Type 0} (l : Look) {f : Token → A} {s : Source} {why : SyntaxStop}
-      → passes l s.now ≡ false → why ≡ At s.now.place (code_by_class s.now.class) → Reads e (tok false l f) s (Err why) s
-  unfolding reads_in
-  tok-refused l {s = s} h is = rw is (record {
-    ran = record {
-      kept = record { faults = omega arith; cause = tt; origin = refl; steady = λ h. h; goes_on = refl };
-      less = tt;
-      went = record {
-        front = [];
-        gone = gone-none s;
-        deep = false;
-        place_is = refl;
-        code_is = refl;
-        stops = λ rest. rw h refl;
-      };
-    };
-  })
-
 module _ {e : Env Sort Sem} where
   -- one of these words
   pub at-words : (w : Text) (vs : List Text) {s s' : Source} {r : Result Text SyntaxStop}
@@ -154,7 +85,7 @@ module _ {e : Env Sort Sem} where
   -- a word that is none of these is refused
   pub no-words : (w : Text) (vs : List Text) {s : Source} {why : SyntaxStop}
       → starts e.begins (one_of w vs) s.now ≡ false → why ≡ At s.now.place (code_by_class s.now.class) → Reads e (one_of w vs) s (Err why) s
-  no-words w [] h is = tok-refused (word w) h is
+  no-words w [] h is = at-refused (word w) h is
   no-words w (v ∷ vs) {s = s} {why = why} h is = go (passes (word w) s.now) refl h (λ h. no-words v vs h is)
     where
       go : (b : Bool) → passes (word w) s.now ≡ b → (b || starts e.begins (one_of v vs) s.now) ≡ false
@@ -173,31 +104,6 @@ module _ {e : Env Sort Sem} where
 
 -- ---- a value that stands in another
 
--- a reader and then nothing is the reader
-and-then-pure : (o : Outcome ValueCst) → and_then o (λ v. pure v) ≡ o
-and-then-pure (done v rest) = refl
-and-then-pure (stop d rest) = refl
-
-kid-ran : (n : ℕ) (x : Sort) (s s' : Source) (r : Result ValueCst SyntaxStop)
-    → Ran 1 (value_at n x) s r s' → Reads (values_within n) (inner x) s r s'
-unfolding reads_in
-kid-ran n x s s' r h = record {
-  ran = record {
-    kept = h.kept;
-    less = h.less;
-    went = went-as _ _ r (λ front y rest. and-then-pure (value_at n x (front ++ s'.now ∷ rest)))
-        h.went;
-  };
-}
-
--- and the other way round: what was read of a value, its reader read
-pub kid-went : (n : ℕ) (x : Sort) (s s' : Source) (r : Result ValueCst SyntaxStop)
-    → Reads (values_within n) (inner x) s r s' → Went (value_at n x) s r s'
-unfolding reads_in
-kid-went n x s s' r h =
-    went-as _ _ r (λ front y rest. sym (and-then-pure (value_at n x (front ++ s'.now ∷ rest))))
-    h.ran.went
-
 one-deeper : (n : ℕ) (x : Sort) (s s' : Source) (r : Result ValueCst SyntaxStop) → Reads (values_within n) (rule x) s r s' → Ran 1 (value_at (suc n) x) s r s'
 unfolding value_at reads_in
 one-deeper n x s s' r h = record { kept = h.ran.kept; less = rw (full x) at h.ran.less; went = h.ran.went }
@@ -205,7 +111,7 @@ one-deeper n x s s' r h = record { kept = h.ran.kept; less = rw (full x) at h.ra
 -- the rule of a value, for the value
 pub deeper : (n : ℕ) (x : Sort) {s s' : Source} {r : Result ValueCst SyntaxStop} → 0 < n → Reads (values_within (n - 1)) (rule x) s r s' → Reads (values_within n) (inner x) s r s'
 deeper zero x h q = absurd (omega arith)
-deeper (suc n) x {s = s} {s' = s'} {r = r} h q = let e : suc n - 1 ≡ n = omega arith in kid-ran (suc n) x s s' r (one-deeper n x s s' r (rw e at q))
+deeper (suc n) x {s = s} {s' = s'} {r = r} h q = let e : suc n - 1 ≡ n = omega arith in at-kid x (one-deeper n x s s' r (rw e at q))
 
 -- the two ways to say with which tokens a value begins
 same-bool : (a b : Bool) → (a ≡ true → b ≡ true) → (b ≡ true → a ≡ true) → a ≡ b
@@ -220,35 +126,15 @@ kid-begins x t = same-bool _ _ (rule-starts x t) (starts-rule x t)
 -- no value may nest so deep
 pub value-deep : (n : ℕ) (x : Sort) {s : Source} {why : SyntaxStop} → n ≡ 0 → Begins (rule x) s.now ≡ true → why ≡ At s.now.place Nesting → Reads (values_within n) (inner x) s (Err why) s
 unfolding value_at
-value-deep zero x {s = s} {why = why} z h is = let b = kid-begins x s.now ∙ h in kid-ran zero x s s (Err why) (rw is (record {
-  kept = record { faults = omega arith; cause = tt; origin = refl; steady = λ h. h; goes_on = refl };
-  less = tt;
-  went = record {
-    front = [];
-    gone = gone-none s;
-    deep = true;
-    place_is = refl;
-    code_is = refl;
-    stops = λ rest. rw b refl;
-  };
-}))
+value-deep zero x {s = s} {why = why} z h is =
+    at-kid x (tok-deep (any (value_looks x)) no_tree s why (kid-begins x s.now ∙ h) is)
 value-deep (suc n) x z h is = absurd (omega arith)
 
 -- no value begins so
 pub value-refused : (n : ℕ) (x : Sort) {s : Source} {why : SyntaxStop} → n ≡ 0 → Begins (rule x) s.now ≡ false → why ≡ At s.now.place (code_by_class s.now.class) → Reads (values_within n) (inner x) s (Err why) s
 unfolding value_at
-value-refused zero x {s = s} {why = why} z h is = let b = kid-begins x s.now ∙ h in kid-ran zero x s s (Err why) (rw is (record {
-  kept = record { faults = omega arith; cause = tt; origin = refl; steady = λ h. h; goes_on = refl };
-  less = tt;
-  went = record {
-    front = [];
-    gone = gone-none s;
-    deep = false;
-    place_is = refl;
-    code_is = refl;
-    stops = λ rest. rw b refl;
-  };
-}))
+value-refused zero x {s = s} {why = why} z h is =
+    at-kid x (tok-refused true (any (value_looks x)) no_tree s why (kid-begins x s.now ∙ h) is)
 value-refused (suc n) x z h is = absurd (omega arith)
 
 -- ---- lists of values that stand in another

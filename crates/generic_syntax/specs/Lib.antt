@@ -2,3 +2,4 @@ pub mod Names
 pub mod Values
 pub mod Nested
 pub mod Begins
+pub mod Pieces

@@ -23,7 +23,7 @@ pub fn sign<T: TokenSource>(t: &mut T) -> Result<bool, SyntaxStop>
     Ok(true)
 }
 
-fn item<T: TokenSource>(alloc: Global, t: &mut T) -> Result<ItemCst, SyntaxStop>
+pub fn item<T: TokenSource>(alloc: Global, t: &mut T) -> Result<ItemCst, SyntaxStop>
     ensures { (n : ℕ) → Reads (values_within n) spec.item (T.state t.old) result (T.state t.new) }
 {
     let place = t.place();

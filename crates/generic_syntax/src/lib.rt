@@ -10,6 +10,7 @@ mod leaf;
 mod module_cst;
 mod name;
 mod parse;
+mod pieces;
 mod token;
 mod value;
 mod word;
@@ -22,6 +23,9 @@ pub use module_cst::{
 };
 pub use name::{read_name, read_word};
 pub use parse::{TOO_DEEP, parse_type, parse_value};
+pub use pieces::{
+    ROOM, read_attribute, read_dictionary, read_item, read_results, read_type, read_types,
+};
 pub use word::read_integer_type;
 
 #[cfg(test)]

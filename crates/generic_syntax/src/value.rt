@@ -173,7 +173,11 @@ fn function<T: TokenSource>(alloc: Global, t: &mut T, room: u32) -> Result<Value
 }
 
 #[cycle(values)]
-fn types<T: TokenSource>(alloc: Global, t: &mut T, room: u32) -> Result<List<ValueCst>, SyntaxStop>
+pub fn types<T: TokenSource>(
+    alloc: Global,
+    t: &mut T,
+    room: u32,
+) -> Result<List<ValueCst>, SyntaxStop>
     ensures { Reads (values_within room) spec.types (T.state t.old) result (T.state t.new) }
 {
     expect(t, Class::LParen)?;
@@ -183,7 +187,11 @@ fn types<T: TokenSource>(alloc: Global, t: &mut T, room: u32) -> Result<List<Val
 }
 
 #[cycle(values)]
-fn outs<T: TokenSource>(alloc: Global, t: &mut T, room: u32) -> Result<List<ValueCst>, SyntaxStop>
+pub fn outs<T: TokenSource>(
+    alloc: Global,
+    t: &mut T,
+    room: u32,
+) -> Result<List<ValueCst>, SyntaxStop>
     ensures { Reads (values_within room) spec.outs (T.state t.old) result (T.state t.new) }
 {
     if is_class(t, Class::LParen) {
@@ -371,7 +379,7 @@ fn dict<T: TokenSource>(alloc: Global, t: &mut T, room: u32) -> Result<ValueNode
 }
 
 #[cycle(values)]
-fn entries<T: TokenSource>(
+pub fn entries<T: TokenSource>(
     alloc: Global,
     t: &mut T,
     room: u32,
