@@ -10,7 +10,7 @@ use Rattle.grammar.specs.Grammar.{nullable, kid}
 use Rattle.grammar.specs.OneToken.{check}
 use Rattle.grammar.specs.Ran.{Ran, Reads, reads_in}
 use Rattle.grammar.proofs.Inside.{at-kid}
-use Rattle.grammar.proofs.Known.{Known, grammars-known}
+use Rattle.grammar.proofs.Known.{Known, grammar-known}
 use Rattle.grammar.proofs.Respelled.{all_met}
 use Rattle.ir_lexer.specs.Classes.{same_class}
 use Rattle.ir_lexer.specs.Scan.{step, is_whole, class_at}
@@ -53,7 +53,10 @@ met an_item = refl
 pub pieces-known : (n : ℕ)
     → Known IsPiece (deep_piece n) piece_looks piece_more_looks (piece_at n)
 unfolding IsPiece deep_piece piece_at
-pieces-known n = grammars-known (values-known n) (n == 0) piece decided full met
+pieces-known n = record {
+  each = λ p.
+      grammar-known (values-known n) (n == 0) (piece p) (decided p) (full p) (met p);
+}
 
 -- what a call read of the grammar of a piece, the reader of the piece did
 pub piece-ran : (n : ℕ) (p : Piece) {s s' : Source} {r : Result (PieceTree p) SyntaxStop}

@@ -2,9 +2,11 @@
 -- computed from the grammar.
 use Rattle.std.proofs.Common.{◌≡◌, true, false, refl}
 use Rattle.ir_lexer.specs.Classes.{same_class}
+use Rattle.ir_lexer.specs.Scan.{step, is_whole, class_at}
 use Rattle.grammar.specs.Grammar.{nullable}
 use Rattle.grammar.specs.OneToken.{check, first_looks, more_looks}
 use Rattle.grammar.proofs.Begun.{guarded}
+use Rattle.grammar.proofs.Respelled.{all_met}
 use Rattle.generic_syntax.specs.Values.{Sort, a_type, plain, an_attr, rule}
 use Rattle.generic_syntax.specs.Nested.{value_looks, value_more_looks}
 
@@ -38,3 +40,10 @@ pub mores : (x : Sort) → more_looks value_looks value_more_looks (rule x) ≡ 
 mores a_type = refl
 mores plain = refl
 mores an_attr = refl
+
+-- bytes can give a token for each look of a rule
+pub met : (x : Sort) → all_met (rule x) ≡ true
+unfolding step is_whole class_at same_class
+met a_type = refl
+met plain = refl
+met an_attr = refl

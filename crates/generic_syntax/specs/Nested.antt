@@ -11,7 +11,7 @@ use Rattle.generic_syntax.specs.declared.cst.ValueCst.{ValueCst}
 use Rattle.grammar.specs.Front.{Lists}
 use Rattle.grammar.specs.Grammar.{Tokens, Parser, Derives, Deep, reads, read_tok}
 use Rattle.grammar.specs.Looks.{Look, any}
-use Rattle.grammar.specs.OneToken.{first_looks, more_looks, by_looks}
+use Rattle.grammar.specs.OneToken.{first_looks, more_looks, by_looks, begins_too_deep}
 use Rattle.grammar.specs.Ran.{Env}
 use Rattle.ir_lexer.specs.Tokens.{Token}
 use Rattle.generic_syntax.specs.Values.{Sort, plain, Sem, node_at, rule}
@@ -39,13 +39,9 @@ plain_more_looks x = more_looks value_looks (λ y. []) (rule plain)
 abbrev pub value_more_looks : Sort → List Look
 value_more_looks x = more_looks value_looks plain_more_looks (rule x)
 
--- the one token begins a value, where none may begin
-abbrev pub first_too_deep : Sort → Lists
-first_too_deep x p = (t : Token) × (p ≡ t ∷ []) × (any (value_looks x) t ≡ true)
-
 -- The last of the tokens begins a value nested too deep, where values may nest n deep.
 abbrev pub deep : ℕ → Sort → Lists
-deep zero x p = first_too_deep x p
+deep zero x p = begins_too_deep (value_looks x) p
 deep (suc n) x p = Deep IsValue (deep n) (n == 0) (rule x) p
 
 -- a tree that is never given

@@ -14,7 +14,7 @@ use Rattle.grammar.specs.declared.stop.SyntaxStop.{SyntaxStop}
 use Rattle.grammar.specs.Answers.{Told, Answered, Accepts, IsReadFrom}
 use Rattle.grammar.specs.Rules.{whole}
 use Rattle.grammar.specs.Ran.{ReadsWhole}
-use Rattle.grammar.proofs.Known.{Known, known-seen, known-one-tree, whole-answered, whole-accepts, whole-read-from}
+use Rattle.grammar.proofs.Known.{Known, trees-of, known-fits, grammar-one-tree, known-seen, whole-answered, whole-accepts, whole-read-from}
 use Rattle.grammar.proofs.Repeats.{Fits}
 use Rattle.grammar.proofs.Respelled.{all_met}
 
@@ -24,22 +24,11 @@ no_looks x = []
 
 -- all is known of no nonterminals
 pub flat-known : Known nothing_derived (λ x p. ⊥) no_looks no_looks flat.inside
-flat-known = record {
-  kids = record { begins = λ x t ts c d. absurd d; full = λ x c d. absurd d };
-  samples = record { sample = λ x. absurd x };
-  begun = λ x t e. absurd x;
-  goes = λ x d y e a b p q. absurd p;
-  one = λ x d a b p q. absurd p;
-  no_deep = λ x d. d;
-  seen = λ x p d. absurd d;
-  takes = λ x. absurd x;
-  meets = λ x ts. absurd x;
-  respelled = λ x. absurd x;
-}
+flat-known = record { each = λ x. absurd x }
 
 -- no nonterminal gives a token back, since there is none
 pub flat-fits : Fits flat
-flat-fits = record { takes = flat-known.takes }
+flat-fits = known-fits flat-known false
 
 module _ {A : Type 0} (g : Flat A) (one : check no_looks no_looks g ≡ true) where
   -- what is too deep is viable
@@ -48,7 +37,7 @@ module _ {A : Type 0} (g : Flat A) (one : check no_looks no_looks g ≡ true) wh
 
   -- a list has one tree
   pub flat-one-tree : (d : Tokens) (a b : A) → Spelled g d a → Spelled g d b → a ≡ b
-  flat-one-tree d a b x y = known-one-tree flat-known false g one d a b x y
+  flat-one-tree d a b x y = grammar-one-tree (trees-of flat-known) g one d a b x y
 
 -- what a call that read a whole flat text answers
 module _ {A : Type 0} (g : Flat A) (one : check no_looks no_looks (whole g) ≡ true)

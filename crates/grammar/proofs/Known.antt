@@ -1,13 +1,15 @@
 -- Grammars over nonterminals of which all is known that the theorem on grammars asks.
 --
--- The theorem and its kin ask of the nonterminals what they show of the whole grammar. Here that is
--- one record. From it follow, for each grammar that passes the check, the exact answer of its
--- reader, that tokens have one tree, and what a call that read a whole text answers. And such
--- grammars are known in turn: a grammar above may have them as its nonterminals.
+-- The theorem and its kin ask of nonterminals what they show of whole grammars. Here that is one
+-- record for each nonterminal. From it follow, for a grammar that passes the check, the exact answer
+-- of its reader, that tokens have one tree, and what a call that read a whole text answers. Such a
+-- grammar is known in turn, so a grammar above may have it as a nonterminal.
 --
---   Known             what is known of nonterminals, of their tables and of their readers
---   known-..          the same of a grammar over them
---   grammars-known    so a family of grammars may be nonterminals
+--   KnownTrees, Trees     what is known of the trees of a nonterminal, and of each
+--   KnownReader, Known    the same with its reader
+--   grammar-..            trees of a grammar over such nonterminals
+--   known-..              readers of one
+--   whole-..              what a call that read a whole text answers
 use Rattle.std.proofs.Common.{◌≡◌, Bool, true, false, List, [], ◌∷◌, ◌++◌, Result, Ok, Err, IfOk}
 use Rattle.ir_lexer.specs.Source.{Source}
 use Rattle.ir_lexer.specs.Tokens.{Token}
@@ -25,38 +27,90 @@ use Rattle.grammar.proofs.Check.{starts-in, starts-back, more-in, checked}
 use Rattle.grammar.proofs.Exact.{exact, deep-viable, no-deep}
 use Rattle.grammar.proofs.Firsts.{Kids, first, empty}
 use Rattle.grammar.proofs.More.{goes, one-token}
+use Rattle.grammar.proofs.Repeats.{Fits}
 use Rattle.grammar.proofs.Respelled.{Respellable, all_met, respelled}
 use Rattle.grammar.proofs.Shrink.{Takes, takes-if}
 use Rattle.grammar.proofs.Unique.{one-tree}
 use Rattle.grammar.proofs.Wholes.{answered, front-answered, told-front, read-from, accepts}
 
--- What is known of nonterminals: which tokens their pieces begin with and go on with, by two tables
--- of looks; that tokens are one of them with one tree at most; what in them is too deep; and that
--- each has a reader, whose answers are exact.
+-- ---- trees
+
+-- What is known of the trees of a nonterminal: its pieces begin with tokens of one table, and none
+-- is empty; the tokens that go on with a whole piece are in another; tokens have one tree; and a
+-- piece of any tokens has one that bytes can give.
+pub record KnownTrees {A : Type 0} (R : Tokens → A → Type 0) (begins goes_on : List Look)
+    : Type 0 where
+  pub first : (t : Token) (ts : Tokens) (a : A) → R (t ∷ ts) a → any begins t ≡ true
+  pub full : (a : A) → R [] a → ⊥
+  pub goes : (d : Tokens) (y : Token) (e : Tokens) (a b : A) → R d a → R (d ++ y ∷ e) b
+      → any goes_on y ≡ true
+  pub one : (d : Tokens) (a b : A) → R d a → R d b → a ≡ b
+  pub respelled : Respellable R
+
+-- the same of each nonterminal
+pub record Trees {X : Type 0} {Sem : X → Type 0} (Derived : (x : X) → Tokens → Sem x → Type 0)
+    (begins goes_on : X → List Look) : Type 0 where
+  pub each : (x : X) → KnownTrees (Derived x) (begins x) (goes_on x)
+
+module _ {X : Type 0} {Sem : X → Type 0} {Derived : (x : X) → Tokens → Sem x → Type 0}
+    {begins goes_on : X → List Look} (trees : Trees Derived begins goes_on) where
+  -- first tokens, in the words of the theorem
+  pub kids-of : Kids Derived (by_looks begins)
+  kids-of = record { begins = λ x. (trees.each x).first; full = λ x. (trees.each x).full }
+
+  module _ {A : Type 0} (g : G X Sem A) (one : check begins goes_on g ≡ true) where
+    -- a grammar that passes the check is decided by one token
+    pub decided : IsOneToken Derived (by_looks begins) g
+    decided =
+        one-token (by_looks begins) (by_looks goes_on) Derived kids-of (λ x. (trees.each x).goes) g
+        (checked begins goes_on g one)
+
+    -- tokens have one tree
+    pub grammar-one-tree : (d : Tokens) (a b : A) → Derives Derived g d a → Derives Derived g d b
+        → a ≡ b
+    grammar-one-tree d a b x y =
+        one-tree (by_looks begins) Derived kids-of (λ x. (trees.each x).one) g decided d a b x y
+
+    -- each piece has one that bytes can give, where each look is met by such a token
+    pub grammar-respells : all_met g ≡ true → Respellable (Derives Derived g)
+    grammar-respells met = respelled Derived (λ x. (trees.each x).respelled) g met
+
+    -- all that is known of trees, where no piece is empty
+    pub grammar-trees : nullable g ≡ false → all_met g ≡ true
+        → KnownTrees (Derives Derived g) (first_looks begins g) (more_looks begins goes_on g)
+    grammar-trees some met = record {
+      first = λ t ts a d.
+          starts-in begins goes_on g t (first Derived (by_looks begins) kids-of g t ts a d);
+      full = λ a d.
+          let u = empty Derived (by_looks begins) kids-of g a d in absurd (cc (u, some));
+      goes = λ d y e a b p q. more-in begins goes_on g y
+          (goes (by_looks begins) (by_looks goes_on) Derived kids-of (λ x. (trees.each x).goes) g
+          (checked begins goes_on g one) d y e a b p q);
+      one = grammar-one-tree;
+      respelled = grammar-respells met;
+    }
+
+-- ---- readers
+
+-- What is known of a nonterminal and its reader: its trees; that it has a piece, and one that begins
+-- with each token of its table; that nothing is too deep before the first token, and what is too
+-- deep begins a piece; and that the reader takes a token and answers exactly.
+pub record KnownReader {A : Type 0} (R : Tokens → A → Type 0) (D : Lists)
+    (begins goes_on : List Look) (p : Parser A) : Type 0 where
+  pub trees : KnownTrees R begins goes_on
+  pub sample : (ts : Tokens) × Some_of R ts
+  pub begun : (t : Token) → any begins t ≡ true → HasMore (Some_of R) (t ∷ [])
+  pub no_deep : D [] → ⊥
+  pub seen : (w : Tokens) → D w → HasMore (Some_of R) w
+  pub takes : Takes p
+  pub meets : (ts : Tokens) → IsExactAnswer R D ts (p ts)
+
+-- the same of each nonterminal
 pub record Known {X : Type 0} {Sem : X → Type 0} (Derived : (x : X) → Tokens → Sem x → Type 0)
     (DeepKid : X → Lists) (begins goes_on : X → List Look)
     (kid_at : (x : X) → Parser (Sem x)) : Type 0 where
-  -- pieces begin with tokens of the first table, and none is empty
-  pub kids : Kids Derived (by_looks begins)
-  -- each has a piece
-  pub samples : Samples Derived (by_looks begins)
-  -- each token of the first table begins a piece
-  pub begun : (x : X) (t : Token) → any (begins x) t ≡ true → HasMore (Some_of (Derived x)) (t ∷ [])
-  -- what goes on with a whole piece is in the second table
-  pub goes : (x : X) (d : Tokens) (y : Token) (e : Tokens) (a b : Sem x) → Derived x d a
-      → Derived x (d ++ y ∷ e) b → any (goes_on x) y ≡ true
-  -- tokens have one tree
-  pub one : (x : X) (d : Tokens) (a b : Sem x) → Derived x d a → Derived x d b → a ≡ b
-  -- nothing is too deep before the first token
-  pub no_deep : (x : X) → DeepKid x [] → ⊥
-  -- what is too deep begins a piece
-  pub seen : (x : X) (p : Tokens) → DeepKid x p → HasMore (Some_of (Derived x)) p
-  -- the readers take tokens
-  pub takes : (x : X) → Takes (kid_at x)
-  -- and answer exactly
-  pub meets : (x : X) (ts : Tokens) → IsExactAnswer (Derived x) (DeepKid x) ts (kid_at x ts)
-  -- a piece of any tokens has one that bytes can give
-  pub respelled : (x : X) → Respellable (Derived x)
+  pub each : (x : X)
+      → KnownReader (Derived x) (DeepKid x) (begins x) (goes_on x) (kid_at x)
 
 -- how known nonterminals are read
 abbrev pub env_of : {X : Type 0} {Sem : X → Type 0} → (X → List Look) → ((x : X) → Parser (Sem x))
@@ -65,55 +119,60 @@ env_of begins kid_at none = record { begins = by_looks begins; inside = kid_at; 
 
 module _ {X : Type 0} {Sem : X → Type 0} {Derived : (x : X) → Tokens → Sem x → Type 0}
     {DeepKid : X → Lists} {begins goes_on : X → List Look} {kid_at : (x : X) → Parser (Sem x)}
+    (known : Known Derived DeepKid begins goes_on kid_at) where
+  -- what is known of trees alone
+  pub trees-of : Trees Derived begins goes_on
+  trees-of = record { each = λ x. (known.each x).trees }
+
+  -- a piece of each nonterminal
+  samples-of : Samples Derived (by_looks begins)
+  samples-of = record { sample = λ x. (known.each x).sample }
+
+  -- readers of nonterminals take tokens
+  pub known-fits : (none : Bool) → Fits (env_of begins kid_at none)
+  known-fits none = record { takes = λ x. (known.each x).takes }
+
+module _ {X : Type 0} {Sem : X → Type 0} {Derived : (x : X) → Tokens → Sem x → Type 0}
+    {DeepKid : X → Lists} {begins goes_on : X → List Look} {kid_at : (x : X) → Parser (Sem x)}
     (known : Known Derived DeepKid begins goes_on kid_at) (none : Bool) where
   module _ {A : Type 0} (g : G X Sem A) (one : check begins goes_on g ≡ true) where
-    decided : IsOneToken Derived (by_looks begins) g
-    decided =
-        one-token (by_looks begins) (by_looks goes_on) Derived known.kids known.goes g
-        (checked begins goes_on g one)
-
-    -- a piece
-    known-sample : (ts : Tokens) × Some_of (Derives Derived g) ts
-    known-sample = sample Derived (by_looks begins) known.kids known.samples g decided
-
-    -- a token of the grammar's table begins a piece
-    known-begun : (t : Token) → any (first_looks begins g) t ≡ true
-        → HasMore (Some_of (Derives Derived g)) (t ∷ [])
-    known-begun t e =
-        begun Derived (by_looks begins) known.kids known.samples known.begun g decided t
-        (starts-back begins goes_on g t e)
-
-    -- what goes on with a whole piece is in the other table
-    known-goes : (d : Tokens) (y : Token) (e : Tokens) (a b : A) → Derives Derived g d a
-        → Derives Derived g (d ++ y ∷ e) b → any (more_looks begins goes_on g) y ≡ true
-    known-goes d y e a b p q =
-        more-in begins goes_on g y
-        (goes (by_looks begins) (by_looks goes_on) Derived known.kids known.goes g
-        (checked begins goes_on g one) d y e a b p q)
-
     -- the reader meets what is asked of it
     pub known-meets : (ts : Tokens) → IsExactAnswer (Derives Derived g)
         (Deep Derived DeepKid none g) ts (reads (by_looks begins) kid_at none g ts)
     known-meets ts =
-        exact Derived (by_looks begins) known.kids known.samples known.begun DeepKid known.no_deep
-        known.seen none kid_at known.takes known.meets g decided ts
+        exact Derived (by_looks begins) (kids-of (trees-of known)) (samples-of known)
+        (λ x. (known.each x).begun) DeepKid (λ x. (known.each x).no_deep) (λ x. (known.each x).seen)
+        none kid_at (λ x. (known.each x).takes) (λ x. (known.each x).meets) g
+        (decided (trees-of known) g one) ts
 
     -- what is too deep is viable
     pub known-seen : (p : Tokens) → Deep Derived DeepKid none g p
         → HasMore (Some_of (Derives Derived g)) p
     known-seen p d =
-        deep-viable Derived (by_looks begins) known.kids known.samples known.begun DeepKid
-        known.no_deep known.seen none g decided p d
+        deep-viable Derived (by_looks begins) (kids-of (trees-of known)) (samples-of known)
+        (λ x. (known.each x).begun) DeepKid (λ x. (known.each x).no_deep) (λ x. (known.each x).seen)
+        none g (decided (trees-of known) g one) p d
 
-    -- tokens have one tree
-    pub known-one-tree : (d : Tokens) (a b : A) → Derives Derived g d a → Derives Derived g d b
-        → a ≡ b
-    known-one-tree d a b x y =
-        one-tree (by_looks begins) Derived known.kids known.one g decided d a b x y
-
-    -- each piece has one that bytes can give, where each look is met by such a token
-    pub known-respells : all_met g ≡ true → Respellable (Derives Derived g)
-    known-respells met = respelled Derived known.respelled g met
+    -- Where no piece is empty, the grammar and its reader are known in turn.
+    pub grammar-known : nullable g ≡ false → all_met g ≡ true
+        → KnownReader (Derives Derived g) (Deep Derived DeepKid none g) (first_looks begins g)
+        (more_looks begins goes_on g) (reads (by_looks begins) kid_at none g)
+    grammar-known some met = record {
+      trees = grammar-trees (trees-of known) g one some met;
+      sample =
+          sample Derived (by_looks begins) (kids-of (trees-of known)) (samples-of known) g
+          (decided (trees-of known) g one);
+      begun = λ t e.
+          begun Derived (by_looks begins) (kids-of (trees-of known)) (samples-of known)
+          (λ x. (known.each x).begun) g (decided (trees-of known) g one) t
+          (starts-back begins goes_on g t e);
+      no_deep = λ d.
+          no-deep Derived (by_looks begins) (kids-of (trees-of known)) (samples-of known)
+          (λ x. (known.each x).begun) DeepKid (λ x. (known.each x).no_deep) none g d;
+      seen = known-seen;
+      takes = takes-if (by_looks begins) kid_at none (λ x. (known.each x).takes) g some;
+      meets = known-meets;
+    }
 
   -- what a call that read a piece answers
   module _ {A : Type 0} (g : G X Sem A) (one : check begins goes_on g ≡ true)
@@ -124,7 +183,7 @@ module _ {X : Type 0} {Sem : X → Type 0} {Derived : (x : X) → Tokens → Sem
     unfolding reads_in
     known-front =
         front-answered (Derives Derived g) (Deep Derived DeepKid none g)
-        (reads (by_looks begins) kid_at none g) (known-meets g one) (known-respells g one met) s s'
+        (reads (by_looks begins) kid_at none g) (known-meets g one) (grammar-respells (trees-of known) g one met) s s'
         r x
 
     -- where there is a front, its tree
@@ -132,7 +191,7 @@ module _ {X : Type 0} {Sem : X → Type 0} {Derived : (x : X) → Tokens → Sem
         Accepts (Derives Derived g) (Deep Derived DeepKid none g) ts r)
     known-accepts ts is =
         accepts (Derives Derived g) (Deep Derived DeepKid none g) (known-seen g one)
-        (known-one-tree g one) (s.now ∷ ts) r
+        (grammar-one-tree (trees-of known) g one) (s.now ∷ ts) r
         (told-front (Derives Derived g) (Deep Derived DeepKid none g) s s' r known-front ts is)
 
   -- what a call that read a whole text answers
@@ -146,14 +205,14 @@ module _ {X : Type 0} {Sem : X → Type 0} {Derived : (x : X) → Tokens → Sem
     whole-answered =
         answered (Derives Derived (whole g)) (Deep Derived DeepKid none (whole g))
         (reads (by_looks begins) kid_at none (whole g)) (known-meets (whole g) one)
-        (known-respells (whole g) one met) s s' r x.went
+        (grammar-respells (trees-of known) (whole g) one met) s s' r x.went
 
     -- tokens with a front are answered by its tree
     pub whole-accepts : Told s (λ ts.
         Accepts (Derives Derived (whole g)) (Deep Derived DeepKid none (whole g)) ts r)
     whole-accepts ts is =
         accepts (Derives Derived (whole g)) (Deep Derived DeepKid none (whole g))
-        (known-seen (whole g) one) (known-one-tree (whole g) one) (s.now ∷ ts) r
+        (known-seen (whole g) one) (grammar-one-tree (trees-of known) (whole g) one) (s.now ∷ ts) r
         (whole-answered ts is)
 
   -- a tree that was read is that of tokens that come from the source, told or not
@@ -165,32 +224,5 @@ module _ {X : Type 0} {Sem : X → Type 0} {Derived : (x : X) → Tokens → Sem
   whole-read-from g one met {s = s} {s' = s'} (Ok a) x =
       read-from (Derives Derived (whole g)) (Deep Derived DeepKid none (whole g))
       (reads (by_looks begins) kid_at none (whole g)) (known-meets (whole g) one)
-      (known-respells (whole g) one met) s s' a x.went
+      (grammar-respells (trees-of known) (whole g) one met) s s' a x.went
   whole-read-from g one met (Err e) x = tt
-
-  -- Grammars that pass the check and have no empty piece are known in turn.
-  pub grammars-known : {P : Type 0} {PSem : P → Type 0} (piece : (p : P) → G X Sem (PSem p))
-      → ((p : P) → check begins goes_on (piece p) ≡ true)
-      → ((p : P) → nullable (piece p) ≡ false) → ((p : P) → all_met (piece p) ≡ true)
-      → Known (λ p. Derives Derived (piece p)) (λ p. Deep Derived DeepKid none (piece p))
-      (λ p. first_looks begins (piece p)) (λ p. more_looks begins goes_on (piece p))
-      (λ p. reads (by_looks begins) kid_at none (piece p))
-  grammars-known piece one full met = record {
-    kids = record {
-      begins = λ p t ts a d. starts-in begins goes_on (piece p) t
-          (first Derived (by_looks begins) known.kids (piece p) t ts a d);
-      full = λ p a d. let u = empty Derived (by_looks begins) known.kids (piece p) a d in
-          absurd (cc (u, full p));
-    };
-    samples = record { sample = λ p. known-sample (piece p) (one p) };
-    begun = λ p. known-begun (piece p) (one p);
-    goes = λ p. known-goes (piece p) (one p);
-    one = λ p. known-one-tree (piece p) (one p);
-    no_deep = λ p d.
-        no-deep Derived (by_looks begins) known.kids known.samples known.begun DeepKid
-        known.no_deep none (piece p) d;
-    seen = λ p. known-seen (piece p) (one p);
-    takes = λ p. takes-if (by_looks begins) kid_at none known.takes (piece p) (full p);
-    meets = λ p. known-meets (piece p) (one p);
-    respelled = λ p. known-respells (piece p) (one p) (met p);
-  }

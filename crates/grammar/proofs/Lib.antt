@@ -21,6 +21,7 @@ pub mod Lists
 pub mod Codes
 pub mod Fronts
 pub mod Known
+pub mod Knots
 pub mod FlatReads
 pub mod Wholes
 pub mod Widths

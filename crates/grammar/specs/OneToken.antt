@@ -5,17 +5,24 @@
 -- go on with a whole piece must be apart from those that begin what follows it. Both are found by
 -- gathering looks; of the nonterminals, two tables say them.
 --
+--   begins_too_deep looks p
+--                   p is one token that begins a piece, where none may begin
 --   first_looks g   the looks with which a piece of g begins
 --   more_looks g    the looks that go on with a whole piece of g
 --   check g         one token decides at each place of g
-use Rattle.std.specs.Prelude.{Bool, true, not, ◌&&◌, List, [], ◌∷◌, ◌++◌, cond}
+use Rattle.std.specs.Prelude.{◌≡◌, Bool, true, not, ◌&&◌, List, [], ◌∷◌, ◌++◌, cond}
 use Rattle.ir_lexer.specs.Tokens.{Token}
+use Rattle.grammar.specs.Front.{Lists}
 use Rattle.grammar.specs.Looks.{Look, any, apart}
 use Rattle.grammar.specs.Grammar.{G, ret, tok, both, alt, star, chain, made, placed, kid, nullable}
 
 -- the tokens that pass one of the looks which a table has for each nonterminal
 abbrev pub by_looks : {X : Type 0} → (X → List Look) → X → Token → Bool
 by_looks table x t = any (table x) t
+
+-- The one token passes a look of the table: where no piece may begin, it begins one too deep.
+abbrev pub begins_too_deep : List Look → Lists
+begins_too_deep begins p = (t : Token) × (p ≡ t ∷ []) × (any begins t ≡ true)
 
 module _ {X : Type 0} {Sem : X → Type 0} (begins : X → List Look) where
   -- the looks with which a piece begins
