@@ -4,15 +4,14 @@
 --   at-words       one of some words
 --   deeper, ..     a value that stands in another
 --   memory-after   memory ran out behind a piece
-use Rattle.std.proofs.Common.{◌≡◌, ℕ, zero, suc, ◌-◌, ◌<◌, Bool, true, false, ◌||◌, List, [], ◌∷◌, ◌++◌, Result, Ok, Err, ◌+◌, refl, sym, ◌∙◌, arith, codes, subst}
+use Rattle.std.proofs.Common.{◌≡◌, ℕ, zero, suc, ◌-◌, ◌<◌, Bool, true, false, ◌||◌, List, [], ◌∷◌, Result, Ok, Err, refl, sym, ◌∙◌, arith, codes, subst}
 use Rattle.generic_syntax.specs.declared.cst.ValueCst.{ValueCst}
 use Rattle.grammar.specs.declared.stop.SyntaxStop.{SyntaxStop}
 use Rattle.grammar.specs.declared.stop.SyntaxStop.TheVariants.{At, OutOfMemory}
 use Rattle.grammar.specs.declared.stop.SyntaxCode.TheVariants.{Nesting}
-use Rattle.grammar.specs.Grammar.{G, Tokens, Outcome, done, stop, and_then, pure, tok, starts, read_tok}
+use Rattle.grammar.specs.Grammar.{G, Tokens, tok, starts, read_tok}
 use Rattle.grammar.specs.Looks.{Look, any_of, word, int_word, passes, any, class_of, text_fits}
-use Rattle.grammar.specs.Ran.{Ran, Went, Env, reads_in, Took, Reads, code_by_class}
-use Rattle.grammar.proofs.Gone.{gone-none}
+use Rattle.grammar.specs.Ran.{Ran, Env, reads_in, Took, Reads, code_by_class}
 use Rattle.grammar.proofs.Meet.{and-true}
 use Rattle.grammar.proofs.Inside.{at-kid, tok-deep}
 use Rattle.grammar.proofs.Runs.{tok-refused, at-tok, at-refused, at-ret, left, right, went-as}

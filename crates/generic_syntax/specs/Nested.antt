@@ -6,7 +6,7 @@
 --                      tables: with which tokens a value begins, and which go on with a whole one
 --   value_at n x       the reader of a value that may nest n deep
 --   values_within n    how values are read that may nest n deep
-use Rattle.std.specs.Prelude.{◌≡◌, ℕ, zero, suc, ◌==◌, true, List, [], ◌∷◌}
+use Rattle.std.specs.Prelude.{ℕ, zero, suc, ◌==◌, true, List, []}
 use Rattle.generic_syntax.specs.declared.cst.ValueCst.{ValueCst}
 use Rattle.grammar.specs.Front.{Lists}
 use Rattle.grammar.specs.Grammar.{Tokens, Parser, Derives, Deep, reads, read_tok}

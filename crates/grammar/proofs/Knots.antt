@@ -21,7 +21,6 @@ use Rattle.grammar.proofs.Begun.{guarded, begun-guarded}
 use Rattle.grammar.proofs.Check.{starts-back}
 use Rattle.grammar.proofs.Choice.{empty-parts}
 use Rattle.grammar.proofs.Known.{KnownTrees, Trees, KnownReader, kids-of, decided}
-use Rattle.grammar.proofs.Respelled.{Respellable}
 use Rattle.grammar.proofs.Shrink.{tok-takes}
 
 -- ---- trees

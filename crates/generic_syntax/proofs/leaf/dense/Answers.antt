@@ -1,7 +1,4 @@
-use Rattle.ir_lexer.specs.declared.class.Class.TheVariants as cls
-use Rattle.generic_syntax.specs.declared.cst.ValueNode.TheVariants as node
 use Rattle.grammar.proofs.Runs.{exit, at-tok, both-ok, both-first, both-second, made-ok, made-err}
-use Rattle.generic_syntax.specs.Values as spec
 use Rattle.generic_syntax.proofs.leaf.dense.Goals as goal
 
 pub returns-in_err-expect_word : goal.returns-in_err-expect_word

@@ -1,6 +1,4 @@
-use Rattle.std.proofs.Common.{rules, refl, sym, ◌∙◌, true, false, []}
-use Rattle.ir_lexer.specs.declared.class.Class.TheVariants as cls
-use Rattle.generic_syntax.specs.declared.cst.ValueNode.TheVariants as node
+use Rattle.std.proofs.Common.{rules, refl, sym, ◌∙◌, []}
 use Rattle.grammar.proofs.Runs.{exit, at-tok, at-ret, left, right, took-ok, took-err}
 use Rattle.generic_syntax.specs.Values as spec
 use Rattle.generic_syntax.proofs.leaf.dims.Goals as goal

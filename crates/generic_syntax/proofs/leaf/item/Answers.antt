@@ -1,8 +1,5 @@
-use Rattle.std.proofs.Common.{sym, ◌∙◌, true, false, [], ◌∷◌, codes}
-use Rattle.ir_lexer.specs.declared.class.Class.TheVariants as cls
-use Rattle.generic_syntax.specs.declared.cst.ValueNode.TheVariants as node
+use Rattle.std.proofs.Common.{sym, ◌∙◌, [], ◌∷◌, codes}
 use Rattle.grammar.proofs.Runs.{exit, at-tok, both-ok, both-first, both-second, left, right, made-ok, made-err, placed-ok, placed-err}
-use Rattle.generic_syntax.specs.Values as spec
 use Rattle.generic_syntax.proofs.Steps.{at-words}
 use Rattle.generic_syntax.proofs.leaf.item.Goals as goal
 

@@ -1,8 +1,5 @@
-use Rattle.std.proofs.Common.{arith, refl, sym, ◌∙◌, true, false}
-use Rattle.ir_lexer.specs.declared.class.Class.TheVariants as cls
-use Rattle.generic_syntax.specs.declared.cst.ValueNode.TheVariants as node
+use Rattle.std.proofs.Common.{arith, refl, sym, ◌∙◌}
 use Rattle.grammar.proofs.Runs.{exit, at-tok, both-ok, both-first, both-second}
-use Rattle.generic_syntax.specs.Values as spec
 use Rattle.generic_syntax.proofs.Knot.{values-fit}
 use Rattle.generic_syntax.proofs.Rows.{builds-on, builds-end, builds-err, builds-memory, builds-first}
 use Rattle.generic_syntax.proofs.Steps.{memory-after}

@@ -1,8 +1,5 @@
-use Rattle.std.proofs.Common.{refl, sym, ◌∙◌, true, false}
-use Rattle.ir_lexer.specs.declared.class.Class.TheVariants as cls
-use Rattle.generic_syntax.specs.declared.cst.ValueNode.TheVariants as node
+use Rattle.std.proofs.Common.{refl, sym, ◌∙◌}
 use Rattle.grammar.proofs.Runs.{exit, at-tok, at-ret, left, right, made-ok, made-err}
-use Rattle.generic_syntax.specs.Values as spec
 use Rattle.generic_syntax.proofs.leaf.sign.Goals as goal
 
 pub returns-then-not-is_class : goal.returns-then-not-is_class

@@ -1,6 +1,4 @@
-use Rattle.std.proofs.Common.{◌+◌, ◌++◌, ◌≡◌, drop, []}
-use Rattle.generic_syntax.specs.declared.cst.ValueNode.TheVariants as node
-use Rattle.ir_lexer.specs.declared.class.Class.TheVariants as c
+use Rattle.std.proofs.Common.{◌++◌, ◌≡◌, drop, []}
 use Rattle.generic_syntax.specs.Values as spec
 use Rattle.generic_syntax.proofs.leaf.split_dims.Given as goal
 

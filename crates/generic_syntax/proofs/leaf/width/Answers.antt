@@ -1,6 +1,4 @@
-use Rattle.std.proofs.Common.{rules, refl, sym, ◌∙◌, true, false, codes, ap}
-use Rattle.ir_lexer.specs.declared.class.Class.TheVariants as cls
-use Rattle.generic_syntax.specs.declared.cst.ValueNode.TheVariants as node
+use Rattle.std.proofs.Common.{rules, refl, sym, ◌∙◌, codes, ap}
 use Rattle.grammar.proofs.Codes.{refuses-is}
 use Rattle.grammar.proofs.Runs.{exit, made-ok, made-err, took-ok, took-err}
 use Rattle.generic_syntax.specs.Values as spec

@@ -1,6 +1,5 @@
 use Rattle.std.proofs.Common.{rules}
 use Rattle.grammar.proofs.Runs.{took-ok, took-err, took-exit}
-use Rattle.ir_lexer.specs.Names as names
 use Rattle.generic_syntax.proofs.token.read_text.Goals as goal
 
 pub returns-in_err-expect : goal.returns-in_err-expect

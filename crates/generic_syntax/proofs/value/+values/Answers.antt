@@ -1,10 +1,8 @@
-use Rattle.std.proofs.Common.{arith, refl, sym, ◌∙◌, true, false, [], ◌∷◌, codes}
+use Rattle.std.proofs.Common.{arith, refl, sym, ◌∙◌, [], ◌∷◌, codes}
 use Rattle.ir_lexer.specs.declared.class.Class.TheVariants as cls
-use Rattle.generic_syntax.specs.declared.cst.ValueNode.TheVariants as node
 use Rattle.grammar.specs.Looks.{dotted, undotted}
 use Rattle.grammar.proofs.Codes.{refuses-is}
 use Rattle.grammar.proofs.Runs.{exit, at-tok, at-ret, both-ok, both-first, both-second, left, right, made-ok, made-err, placed-ok, placed-err}
-use Rattle.generic_syntax.specs.Values as spec
 use Rattle.generic_syntax.specs.Values.{a_type, plain, an_attr, node_at}
 use Rattle.generic_syntax.proofs.Knot.{values-fit}
 use Rattle.generic_syntax.proofs.Rows.{builds-on, builds-end, builds-err, builds-memory, builds-first}

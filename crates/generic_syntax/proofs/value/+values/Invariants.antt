@@ -1,5 +1,4 @@
 use Rattle.std.proofs.Common.{◌+◌, ◌*◌}
-use Rattle.generic_syntax.specs.declared.cst.ValueNode.TheVariants as node
 use Rattle.grammar.specs.Rules.{◌>>◌, punct}
 use Rattle.ir_lexer.specs.declared.class.Class.TheVariants as c
 use Rattle.generic_syntax.specs.Nested.{values_within}

@@ -1,11 +1,9 @@
-use Rattle.std.proofs.Common.{rules, refl, sym, ◌∙◌, true, false}
+use Rattle.std.proofs.Common.{rules, refl, sym, ◌∙◌}
 use Rattle.ir_lexer.specs.declared.class.Class.TheVariants as cls
-use Rattle.generic_syntax.specs.declared.cst.ValueNode.TheVariants as node
 use Rattle.grammar.specs.Looks.{any_of}
 use Rattle.grammar.proofs.Codes.{refuses-is}
 use Rattle.grammar.proofs.Inside.{key-ok, key-deep}
 use Rattle.grammar.proofs.Runs.{at-refused, left, right}
-use Rattle.generic_syntax.specs.Values as spec
 use Rattle.generic_syntax.proofs.value.key.Goals as goal
 
 pub returns-then-room-eq0 : goal.returns-then-room-eq0
