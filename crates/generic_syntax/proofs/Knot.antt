@@ -83,7 +83,7 @@ begun : (x : Sort) (t : Token) → any (value_looks x) t ≡ true
     → HasMore (Some_of (IsValue x)) (t ∷ [])
 begun x t e =
     let u = guarded-begun trees sample (rule x) (decided x) (guards x) t
-        (subst (λ (l : List Look). any l t ≡ true) (sym (firsts x)) e) in
+    (subst (λ (l : List Look). any l t ≡ true) (sym (firsts x)) e) in
     (u.0, (u.1.0, fold x (t ∷ u.0) u.1.0 u.1.1))
 
 -- What a grammar over values asks of them is known, at each depth.
