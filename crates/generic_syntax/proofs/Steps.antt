@@ -14,7 +14,8 @@ use Rattle.grammar.specs.Looks.{Look, any_of, word, int_word, passes, any, class
 use Rattle.grammar.specs.Ran.{Ran, Env, reads_in, Took, Reads, code_by_class}
 use Rattle.grammar.proofs.Meet.{and-true}
 use Rattle.grammar.proofs.Inside.{at-kid, tok-deep}
-use Rattle.grammar.proofs.Runs.{tok-refused, at-tok, at-refused, at-ret, left, right, went-as}
+use Rattle.grammar.proofs.Calls.{tok-refused, went-as}
+use Rattle.grammar.proofs.Runs.{at-tok, at-refused, at-ret, left, right}
 use Rattle.ir_lexer.specs.declared.class.Class.TheVariants.{Word}
 use Rattle.ir_lexer.specs.Source.{Source}
 use Rattle.ir_lexer.specs.Spelling.{Text}

@@ -13,7 +13,7 @@ use Rattle.grammar.specs.Grammar.{Outcome, done, stop, and_then, pure, tok, kid,
 use Rattle.grammar.specs.Looks.{Look, passes}
 use Rattle.grammar.specs.Ran.{Ran, Went, Env, reads_in, Took, Reads}
 use Rattle.grammar.proofs.Gone.{gone-none}
-use Rattle.grammar.proofs.Runs.{went-as}
+use Rattle.grammar.proofs.Calls.{went-as}
 
 -- ---- nonterminals
 

@@ -14,6 +14,7 @@ pub mod Height
 pub mod Unique
 pub mod Kept
 pub mod Gone
+pub mod Calls
 pub mod Runs
 pub mod Inside
 pub mod Repeats
