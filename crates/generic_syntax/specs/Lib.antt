@@ -1,5 +1,6 @@
 pub mod Names
 pub mod Values
+pub mod Sorts
 pub mod Nested
 pub mod Begins
 pub mod Pieces

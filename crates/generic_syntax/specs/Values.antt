@@ -314,8 +314,12 @@ attr = placed node_at any_node
 
 -- ---- the nonterminals
 
+-- the forms of each
+abbrev pub forms : Sort → OfValues ValueNode
+forms a_type = type_node
+forms plain = plain_node
+forms an_attr = any_node
+
 -- what each stands for
 abbrev pub rule : Sort → OfValues ValueCst
-rule a_type = type
-rule plain = placed node_at plain_node
-rule an_attr = attr
+rule x = placed node_at (forms x)

@@ -1,5 +1,5 @@
-//! The readers of what stands in values and holds no value: signs, items, symbols and dimensions.
-//! Each function reads the rule of its name, at whatever depth.
+//! The readers of what stands in values and holds no value: signs, items, symbols, dimensions and
+//! keys. Each function reads the rule of its name; only a key asks how deep values may nest.
 
 ghost use Rattle.std.specs.Prelude.{◌≡◌, ℕ, [], IfOk};
 ghost use Rattle.grammar.specs.Ran.{Reads};
@@ -7,7 +7,9 @@ ghost use Rattle.generic_syntax.specs.Nested.{values_within};
 ghost use Rattle.generic_syntax.specs.Values as spec;
 
 use crate::cst::{ItemCst, ValueNode};
-use crate::token::{is_dense_width, is_truth, read_sign_name, read_text, width_of};
+use crate::token::{
+    is_dense_width, is_truth, read_sign_name, read_string, read_text, too_deep, width_of,
+};
 use attr_value::{List, Text};
 use grammar::{SyntaxStop, expect, expect_word, is_class, refused};
 use ir_lexer::{Class, TokenSource};
@@ -133,4 +135,23 @@ fn split_dims(alloc: Global, text: &[u8]) -> Result<List<Text>, AllocError>
     }
     found.trim();
     Ok(found)
+}
+
+/// A key, with which the unit value begins where no `=` follows.
+pub fn key<T: TokenSource>(alloc: Global, t: &mut T, room: u32) -> Result<Text, SyntaxStop>
+    ensures { Reads (values_within room) spec.key (T.state t.old) result (T.state t.new) }
+{
+    if is_class(t, Class::Word) {
+        if room == 0 {
+            return Err(too_deep(t));
+        }
+        return read_text(alloc, t, Class::Word);
+    }
+    if !is_class(t, Class::Str) {
+        return Err(refused(t));
+    }
+    if room == 0 {
+        return Err(too_deep(t));
+    }
+    read_string(alloc, t)
 }

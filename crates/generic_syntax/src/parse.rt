@@ -8,7 +8,8 @@ ghost use Rattle.generic_syntax.specs.Nested.{IsValue, deep};
 ghost use Rattle.generic_syntax.specs.Values.{a_type, an_attr};
 
 use crate::cst::ValueCst;
-use crate::value::{attr_value, type_value};
+use crate::token::ValueSort;
+use crate::value::value;
 use grammar::SyntaxStop;
 use ir_lexer::TokenSource;
 use std::alloc::Global;
@@ -34,7 +35,7 @@ pub fn parse_value<T: TokenSource>(
     ensures accepts { Told (T.state t.old) (λ ts.
         Accepts (IsValue an_attr) (deep (TOO_DEEP - nesting) an_attr) ts result) }
 {
-    attr_value(alloc, t, TOO_DEEP - nesting)
+    value(alloc, t, TOO_DEEP - nesting, ValueSort::Attribute)
 }
 
 /// Reads one type, with the same promises.
@@ -51,5 +52,5 @@ pub fn parse_type<T: TokenSource>(
     ensures accepts { Told (T.state t.old) (λ ts.
         Accepts (IsValue a_type) (deep (TOO_DEEP - nesting) a_type) ts result) }
 {
-    type_value(alloc, t, TOO_DEEP - nesting)
+    value(alloc, t, TOO_DEEP - nesting, ValueSort::AnyType)
 }

@@ -19,7 +19,8 @@ ghost use Rattle.generic_syntax.specs.Pieces.{
 use crate::cst::{EntryCst, ItemCst, ValueCst};
 use crate::leaf::item;
 use crate::parse::TOO_DEEP;
-use crate::value::{attr_value, entries, outs, type_value, types};
+use crate::token::ValueSort;
+use crate::value::{entries, outs, types, value};
 use attr_value::List;
 use grammar::SyntaxStop;
 use ir_lexer::TokenSource;
@@ -36,7 +37,7 @@ pub fn read_type<T: TokenSource>(
 ) -> Result<ValueCst, SyntaxStop>
     ensures { Reads (values_within room) (piece one_type) (T.state t.old) result (T.state t.new) }
 {
-    type_value(alloc, t, room)
+    value(alloc, t, room, ValueSort::AnyType)
 }
 
 /// Reads one attribute, which may be a type, such as `5` or `i8`.
@@ -47,7 +48,7 @@ pub fn read_attribute<T: TokenSource>(
 ) -> Result<ValueCst, SyntaxStop>
     ensures { Reads (values_within room) (piece one_attr) (T.state t.old) result (T.state t.new) }
 {
-    attr_value(alloc, t, room)
+    value(alloc, t, room, ValueSort::Attribute)
 }
 
 /// Reads types in parentheses with commas between them, such as `(i8, i1)` or `()`.

@@ -6,12 +6,33 @@ ghost use Rattle.grammar.specs.Looks as look;
 ghost use Rattle.grammar.specs.Ran.{Took};
 ghost use Rattle.ir_lexer.specs.Names as names;
 ghost use Rattle.generic_syntax.specs.Begins.{Begins};
+ghost use Rattle.generic_syntax.specs.Sorts.{sort_of};
 ghost use Rattle.generic_syntax.specs.Values as spec;
 
 use attr_value::Text;
-use grammar::{SyntaxStop, expect, is_class, is_integer_type, is_word};
+use grammar::{SyntaxCode, SyntaxStop, expect, is_class, is_integer_type, is_word};
 use ir_lexer::{Class, TokenSource, literal_bytes, name_bytes};
 use std::alloc::Global;
+
+/// Which values may stand at a place.
+#[derive(Clone, Copy)]
+pub enum ValueSort {
+    AnyType,
+    /// A type that doesn't begin with a parenthesis.
+    PlainType,
+    /// Any value.
+    Attribute,
+}
+
+/// The refusal of a token that begins a value nested too deep.
+pub fn too_deep<T: TokenSource>(t: &T) -> SyntaxStop
+    ensures { result ≡ SyntaxStop.At (T.state t.now).now.place SyntaxCode.Nesting }
+{
+    SyntaxStop::At {
+        place: t.place(),
+        code: SyntaxCode::Nesting,
+    }
+}
 
 /// Whether a dot stands in the text.
 fn has_dot(text: &[u8]) -> bool
@@ -157,6 +178,17 @@ pub fn begins_attr<T: TokenSource>(t: &T) -> bool
     ensures { result ≡ Begins spec.attr (T.state t.now).now }
 {
     begins_type(t) || begins_attr_only(t)
+}
+
+/// Whether a value of this sort begins with the present token.
+pub fn begins<T: TokenSource>(t: &T, sort: ValueSort) -> bool
+    ensures { result ≡ Begins (spec.rule (sort_of sort)) (T.state t.now).now }
+{
+    match sort {
+        ValueSort::AnyType => begins_type(t),
+        ValueSort::PlainType => begins_plain(t),
+        ValueSort::Attribute => begins_attr(t),
+    }
 }
 
 /// Whether an entry of a dictionary begins with the present token.

@@ -5,10 +5,10 @@ use Rattle.generic_syntax.proofs.Parsing.{parsed, all-parsed}
 use Rattle.generic_syntax.proofs.parse.parse_value.Goals as goal
 
 pub returns-clause-kept : goal.returns-clause-kept
-returns-clause-kept g c = c.attr_value.ensures.ran.kept
+returns-clause-kept g c = c.value.ensures.ran.kept
 
 pub returns-clause-answer : goal.returns-clause-answer
-returns-clause-answer g c = parsed (TOO_DEEP - c.args.nesting) an_attr _ _ _ c.attr_value.ensures
+returns-clause-answer g c = parsed (TOO_DEEP - c.args.nesting) an_attr _ _ _ c.value.ensures
 
 pub returns-clause-accepts : goal.returns-clause-accepts
-returns-clause-accepts g c = all-parsed (TOO_DEEP - c.args.nesting) an_attr _ _ _ c.attr_value.ensures
+returns-clause-accepts g c = all-parsed (TOO_DEEP - c.args.nesting) an_attr _ _ _ c.value.ensures

@@ -4,7 +4,7 @@ use Rattle.grammar.specs.Looks.{any_of}
 use Rattle.grammar.proofs.Codes.{refuses-is}
 use Rattle.grammar.proofs.Inside.{key-ok, key-deep}
 use Rattle.grammar.proofs.Runs.{at-refused, left, right}
-use Rattle.generic_syntax.proofs.value.key.Goals as goal
+use Rattle.generic_syntax.proofs.leaf.key.Goals as goal
 
 pub returns-then-room-eq0 : goal.returns-then-room-eq0
 returns-then-room-eq0 g c = left (rw (sym c.is_class.ensures.passes ∙ c.if-is_class.true) refl) (key-deep (any_of cls.Word) (search rules) (sym c.is_class.ensures.passes ∙ c.if-is_class.true) c.too_deep.ensures)
