@@ -9,13 +9,16 @@ use Rattle.grammar.specs.Front.{Some_of}
 use Rattle.grammar.specs.Grammar.{Tokens, Derives, starts}
 use Rattle.grammar.specs.Looks.{Look, any}
 use Rattle.grammar.specs.OneToken.{by_looks}
+use Rattle.grammar.proofs.Begun.{Samples, IsOneToken}
 use Rattle.grammar.proofs.Check.{starts-in, starts-back}
+use Rattle.grammar.proofs.Firsts.{Kids}
 use Rattle.grammar.proofs.Height.{derives-in, bounded}
-use Rattle.grammar.proofs.Known.{Trees, Known, grammar-trees, grammar-known, known-fits}
+use Rattle.grammar.proofs.Known.{Trees, Known, kids-of, grammar-trees, grammar-known, known-fits}
 use Rattle.grammar.proofs.Knots.{no-trees, trees-as, heights-trees, guarded-begun, reader-as, zero-known}
+use Rattle.grammar.proofs.More.{Checks, one-token}
 use Rattle.grammar.proofs.Repeats.{Fits}
 use Rattle.ir_lexer.specs.Tokens.{Token}
-use Rattle.generic_syntax.specs.Values.{Sort, rule}
+use Rattle.generic_syntax.specs.Values.{Sort, OfValues, rule}
 use Rattle.generic_syntax.specs.Nested.{derived, IsValue, value_looks, value_more_looks, deep, no_tree, value_at, values_within}
 use Rattle.generic_syntax.proofs.OneToken.{decided, full, guards, firsts, mores, met}
 use Rattle.generic_syntax.proofs.Short.{short}
@@ -45,7 +48,7 @@ up (suc n) (suc m) le x ts v d =
     derives-in (derived n) (derived m) (up n m (omega arith)) (rule x) ts v d
 
 -- what the rule derives is a value
-fold : (x : Sort) (ts : Tokens) (v : ValueCst) → Derives IsValue (rule x) ts v → IsValue x ts v
+pub fold : (x : Sort) (ts : Tokens) (v : ValueCst) → Derives IsValue (rule x) ts v → IsValue x ts v
 fold x ts v d = let u = bounded derived up (rule x) ts v d in (suc u.0, u.1)
 
 -- and what is a value, its rule derives
@@ -79,7 +82,7 @@ sample : (x : Sort) → (ts : Tokens) × Some_of (IsValue x) ts
 sample x = let u = short IsValue x in (u.0, (u.1.0, fold x u.0 u.1.0 u.1.1))
 
 -- a token with which a value begins is the first of one
-begun : (x : Sort) (t : Token) → any (value_looks x) t ≡ true
+pub begun : (x : Sort) (t : Token) → any (value_looks x) t ≡ true
     → HasMore (Some_of (IsValue x)) (t ∷ [])
 begun x t e =
     let u = guarded-begun trees sample (rule x) (decided x) (guards x) t
@@ -100,3 +103,27 @@ values-known (suc n) = record {
 -- values take tokens
 pub values-fit : (n : ℕ) → Fits (values_within n)
 values-fit n = known-fits (values-known n) (n == 0)
+
+-- ---- the same facts one by one, as the general lemmas take them
+
+pub kids : Kids IsValue (by_looks value_looks)
+kids = kids-of trees
+
+pub samples : Samples IsValue (by_looks value_looks)
+samples = record { sample = sample }
+
+-- nothing is too deep before the first token
+pub deep-some : (n : ℕ) (x : Sort) → deep n x [] → ⊥
+deep-some n x = ((values-known n).each x).no_deep
+
+-- what is too deep begins a value
+pub deep-seen : (n : ℕ) (x : Sort) (p : Tokens) → deep n x p → HasMore (Some_of (IsValue x)) p
+deep-seen n x = ((values-known n).each x).seen
+
+-- a grammar over values that passes the check is decided by one token
+pub one-of-checks : {A : Type 0} (g : OfValues A)
+    → Checks (by_looks value_looks) (by_looks value_more_looks) g
+    → IsOneToken IsValue (by_looks value_looks) g
+one-of-checks g l =
+    one-token (by_looks value_looks) (by_looks value_more_looks) IsValue kids
+    (λ x. (trees.each x).goes) g l
