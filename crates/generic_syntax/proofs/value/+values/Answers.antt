@@ -3,7 +3,7 @@ use Rattle.ir_lexer.specs.declared.class.Class.TheVariants as cls
 use Rattle.grammar.specs.Looks.{dotted, undotted}
 use Rattle.grammar.proofs.Codes.{refuses-is}
 use Rattle.grammar.proofs.Runs.{exit, at-tok, at-ret, both-ok, both-first, both-second, left, right, made-ok, made-err, placed-ok, placed-err}
-use Rattle.generic_syntax.specs.Values.{a_type, plain, an_attr, node_at}
+use Rattle.generic_syntax.specs.Values.{node_at}
 use Rattle.generic_syntax.proofs.Knot.{values-fit}
 use Rattle.generic_syntax.proofs.Rows.{builds-on, builds-end, builds-err, builds-memory, builds-first}
 use Rattle.generic_syntax.proofs.Steps.{memory-after, at-look, at-words, at-type-word, deeper, value-deep, value-refused, no-values, some-values}
