@@ -41,7 +41,8 @@ rule-starts x t e =
 
 -- ---- trees, by height
 
-up : (n m : ℕ) → n ≤ m → (x : Sort) (ts : Tokens) (v : ValueCst) → derived n x ts v → derived m x ts v
+up : (n m : ℕ) → n ≤ m → (x : Sort) (ts : Tokens) (v : ValueCst) → derived n x ts v
+    → derived m x ts v
 up zero m le x ts v d = absurd d
 up (suc n) zero le x ts v d = absurd (omega arith)
 up (suc n) (suc m) le x ts v d =
@@ -62,7 +63,8 @@ trees-at : (n : ℕ) → Trees (derived n) value_looks value_more_looks
 trees-at zero = record { each = λ x. no-trees (value_looks x) (value_more_looks x) }
 trees-at (suc n) = record {
   each = λ x. trees-as (Derives (derived n) (rule x)) (derived (suc n) x) (firsts x) (mores x)
-      (λ ts v d. d) (λ ts v d. d) (grammar-trees (trees-at n) (rule x) (decided x) (full x) (met x));
+      (λ ts v d. d) (λ ts v d. d)
+      (grammar-trees (trees-at n) (rule x) (decided x) (full x) (met x));
 }
 
 -- values, of any height

@@ -29,18 +29,27 @@ use Rattle.generic_syntax.proofs.Knot.{starts-rule, rule-starts}
 
 module _ {X : Type 0} {Sem : X → Type 0} {e : Env X Sem} where
   -- memory ran out behind a piece
-  pub memory-after : {A : Type 0} {g : G X Sem A} {a : A} {s s' : Source} → Reads e g s (Ok a) s' → Reads e g s (Err OutOfMemory) s'
+  pub memory-after : {A : Type 0} {g : G X Sem A} {a : A} {s s' : Source} → Reads e g s (Ok a) s'
+      → Reads e g s (Err OutOfMemory) s'
   memory-after {s' = s'} x = record {
     ran = record {
-      kept = record { faults = x.ran.kept.faults; cause = tt; origin = x.ran.kept.origin; steady = x.ran.kept.steady; goes_on = tt };
+      kept = record {
+        faults = x.ran.kept.faults;
+        cause = tt;
+        origin = x.ran.kept.origin;
+        steady = x.ran.kept.steady;
+        goes_on = tt;
+      };
       less = tt;
       went = tt;
     };
   }
 
 -- the same tree, said in another way
-pub reads-as : {X : Type 0} {Sem : X → Type 0} {A : Type 0} {e : Env X Sem} {g : G X Sem A} {v w : A} {s s' : Source} → v ≡ w → Reads e g s (Ok w) s' → Reads e g s (Ok v) s'
-reads-as {e = e} {g = g} {s = s} {s' = s'} is x = subst (λ (y : _). Reads e g s (Ok y) s') (sym is) x
+pub reads-as : {X : Type 0} {Sem : X → Type 0} {A : Type 0} {e : Env X Sem} {g : G X Sem A}
+    {v w : A} {s s' : Source} → v ≡ w → Reads e g s (Ok w) s' → Reads e g s (Ok v) s'
+reads-as {e = e} {g = g} {s = s} {s' = s'} is x =
+    subst (λ (y : _). Reads e g s (Ok y) s') (sym is) x
 
 -- a reader of one token by another test, on tokens whose first passes both or none
 tok-by : {A : Type 0} (test other : Token → Bool) (f : Token → A) (t : Token) (more w : Tokens)
@@ -67,51 +76,67 @@ by-class l t h = let u = and-true _ (text_fits l t.text) h in rw u.0 refl
 module _ {X : Type 0} {Sem : X → Type 0} {e : Env X Sem} where
   -- a token that passes the look, taken by its class
   pub at-look : {A : Type 0} (l : Look) {f : Token → A} {s s' : Source} {r : Result A SyntaxStop}
-      → passes l s.now ≡ true → Took (passes (any_of (class_of l))) f s r s' → Reads e (tok false l f) s r s'
+      → passes l s.now ≡ true → Took (passes (any_of (class_of l))) f s r s'
+      → Reads e (tok false l f) s r s'
   at-look l {s = s} h x = at-tok (took-as (by-class l s.now h ∙ sym h) x)
 
 module _ {e : Env Sort Sem} where
   -- one of these words
   pub at-words : (w : Text) (vs : List Text) {s s' : Source} {r : Result Text SyntaxStop}
-      → starts e.begins (one_of w vs) s.now ≡ true → Took (passes (any_of Word)) (λ t. t.text) s r s' → Reads e (one_of w vs) s r s'
+      → starts e.begins (one_of w vs) s.now ≡ true
+      → Took (passes (any_of Word)) (λ t. t.text) s r s' → Reads e (one_of w vs) s r s'
   at-words w [] {s = s} h x = at-look (word w) h x
-  at-words w (v ∷ vs) {s = s} {s' = s'} {r = r} h x = go (passes (word w) s.now) refl h (λ h. at-words v vs h x)
+  at-words w (v ∷ vs) {s = s} {s' = s'} {r = r} h x =
+      go (passes (word w) s.now) refl h (λ h. at-words v vs h x)
     where
-      go : (b : Bool) → passes (word w) s.now ≡ b → (b || starts e.begins (one_of v vs) s.now) ≡ true
-          → (starts e.begins (one_of v vs) s.now ≡ true → Reads e (one_of v vs) s r s') → Reads e (one_of w (v ∷ vs)) s r s'
+      go : (b : Bool) → passes (word w) s.now ≡ b
+          → (b || starts e.begins (one_of v vs) s.now) ≡ true
+          → (starts e.begins (one_of v vs) s.now ≡ true → Reads e (one_of v vs) s r s')
+          → Reads e (one_of w (v ∷ vs)) s r s'
       go true q h again = left q (at-look (word w) q x)
       go false q h again = right q (again h)
 
   -- a word that is none of these is refused
   pub no-words : (w : Text) (vs : List Text) {s : Source} {why : SyntaxStop}
-      → starts e.begins (one_of w vs) s.now ≡ false → why ≡ At s.now.place (code_by_class s.now.class) → Reads e (one_of w vs) s (Err why) s
+      → starts e.begins (one_of w vs) s.now ≡ false
+      → why ≡ At s.now.place (code_by_class s.now.class) → Reads e (one_of w vs) s (Err why) s
   no-words w [] h is = at-refused (word w) h is
-  no-words w (v ∷ vs) {s = s} {why = why} h is = go (passes (word w) s.now) refl h (λ h. no-words v vs h is)
+  no-words w (v ∷ vs) {s = s} {why = why} h is =
+      go (passes (word w) s.now) refl h (λ h. no-words v vs h is)
     where
-      go : (b : Bool) → passes (word w) s.now ≡ b → (b || starts e.begins (one_of v vs) s.now) ≡ false
-          → (starts e.begins (one_of v vs) s.now ≡ false → Reads e (one_of v vs) s (Err why) s) → Reads e (one_of w (v ∷ vs)) s (Err why) s
+      go : (b : Bool) → passes (word w) s.now ≡ b
+          → (b || starts e.begins (one_of v vs) s.now) ≡ false
+          → (starts e.begins (one_of v vs) s.now ≡ false → Reads e (one_of v vs) s (Err why) s)
+          → Reads e (one_of w (v ∷ vs)) s (Err why) s
       go true q h again = absurd (cc)
       go false q h again = right q (again h)
 
   -- a word that is a type
   pub at-type-word : {s s' : Source} {r : Result Text SyntaxStop}
-      → starts e.begins type_word s.now ≡ true → Took (passes (any_of Word)) (λ t. t.text) s r s' → Reads e type_word s r s'
+      → starts e.begins type_word s.now ≡ true → Took (passes (any_of Word)) (λ t. t.text) s r s'
+      → Reads e type_word s r s'
   at-type-word {s = s} {s' = s'} {r = r} h x = go (passes int_word s.now) refl h
     where
-      go : (b : Bool) → passes int_word s.now ≡ b → (b || starts e.begins (one_of (codes "index") type_words) s.now) ≡ true → Reads e type_word s r s'
+      go : (b : Bool) → passes int_word s.now ≡ b
+          → (b || starts e.begins (one_of (codes "index") type_words) s.now) ≡ true
+          → Reads e type_word s r s'
       go true q h = left q (at-look int_word q x)
       go false q h = right q (at-words (codes "index") type_words h x)
 
 -- ---- a value that stands in another
 
-one-deeper : (n : ℕ) (x : Sort) (s s' : Source) (r : Result ValueCst SyntaxStop) → Reads (values_within n) (rule x) s r s' → Ran 1 (value_at (suc n) x) s r s'
+one-deeper : (n : ℕ) (x : Sort) (s s' : Source) (r : Result ValueCst SyntaxStop)
+    → Reads (values_within n) (rule x) s r s' → Ran 1 (value_at (suc n) x) s r s'
 unfolding value_at reads_in
-one-deeper n x s s' r h = record { kept = h.ran.kept; less = rw (full x) at h.ran.less; went = h.ran.went }
+one-deeper n x s s' r h =
+    record { kept = h.ran.kept; less = rw (full x) at h.ran.less; went = h.ran.went }
 
 -- the rule of a value, for the value
-pub deeper : (n : ℕ) (x : Sort) {s s' : Source} {r : Result ValueCst SyntaxStop} → 0 < n → Reads (values_within (n - 1)) (rule x) s r s' → Reads (values_within n) (inner x) s r s'
+pub deeper : (n : ℕ) (x : Sort) {s s' : Source} {r : Result ValueCst SyntaxStop} → 0 < n
+    → Reads (values_within (n - 1)) (rule x) s r s' → Reads (values_within n) (inner x) s r s'
 deeper zero x h q = absurd (omega arith)
-deeper (suc n) x {s = s} {s' = s'} {r = r} h q = let e : suc n - 1 ≡ n = omega arith in at-kid x (one-deeper n x s s' r (rw e at q))
+deeper (suc n) x {s = s} {s' = s'} {r = r} h q =
+    let e : suc n - 1 ≡ n = omega arith in at-kid x (one-deeper n x s s' r (rw e at q))
 
 -- the two ways to say with which tokens a value begins
 same-bool : (a b : Bool) → (a ≡ true → b ≡ true) → (b ≡ true → a ≡ true) → a ≡ b
@@ -124,14 +149,18 @@ pub kid-begins : (x : Sort) (t : Token) → any (value_looks x) t ≡ Begins (ru
 kid-begins x t = same-bool _ _ (rule-starts x t) (starts-rule x t)
 
 -- no value may nest so deep
-pub value-deep : (n : ℕ) (x : Sort) {s : Source} {why : SyntaxStop} → n ≡ 0 → Begins (rule x) s.now ≡ true → why ≡ At s.now.place Nesting → Reads (values_within n) (inner x) s (Err why) s
+pub value-deep : (n : ℕ) (x : Sort) {s : Source} {why : SyntaxStop} → n ≡ 0
+    → Begins (rule x) s.now ≡ true → why ≡ At s.now.place Nesting
+    → Reads (values_within n) (inner x) s (Err why) s
 unfolding value_at
 value-deep zero x {s = s} {why = why} z h is =
     at-kid x (tok-deep (any (value_looks x)) no_tree s why (kid-begins x s.now ∙ h) is)
 value-deep (suc n) x z h is = absurd (omega arith)
 
 -- no value begins so
-pub value-refused : (n : ℕ) (x : Sort) {s : Source} {why : SyntaxStop} → n ≡ 0 → Begins (rule x) s.now ≡ false → why ≡ At s.now.place (code_by_class s.now.class) → Reads (values_within n) (inner x) s (Err why) s
+pub value-refused : (n : ℕ) (x : Sort) {s : Source} {why : SyntaxStop} → n ≡ 0
+    → Begins (rule x) s.now ≡ false → why ≡ At s.now.place (code_by_class s.now.class)
+    → Reads (values_within n) (inner x) s (Err why) s
 unfolding value_at
 value-refused zero x {s = s} {why = why} z h is =
     at-kid x (tok-refused true (any (value_looks x)) no_tree s why (kid-begins x s.now ∙ h) is)
@@ -140,7 +169,8 @@ value-refused (suc n) x z h is = absurd (omega arith)
 -- ---- lists of values that stand in another
 
 -- no value begins here
-pub no-values : (n : ℕ) (x : Sort) {s : Source} → Begins (rule x) s.now ≡ false → Reads (values_within n) (list (inner x)) s (Ok []) s
+pub no-values : (n : ℕ) (x : Sort) {s : Source} → Begins (rule x) s.now ≡ false
+    → Reads (values_within n) (list (inner x)) s (Ok []) s
 no-values n x {s = s} h = right (or-nothing _ (kid-begins x s.now ∙ h)) at-ret
   where
     or-nothing : (b : Bool) → b ≡ false → (b || false) ≡ false
@@ -148,8 +178,10 @@ no-values n x {s = s} h = right (or-nothing _ (kid-begins x s.now ∙ h)) at-ret
     or-nothing false e = refl
 
 -- one begins here
-pub some-values : (n : ℕ) (x : Sort) {s s' : Source} {r : Result (List ValueCst) SyntaxStop} → Begins (rule x) s.now ≡ true
-    → Reads (values_within n) (list1 (inner x)) s r s' → Reads (values_within n) (list (inner x)) s r s'
+pub some-values : (n : ℕ) (x : Sort) {s s' : Source} {r : Result (List ValueCst) SyntaxStop}
+    → Begins (rule x) s.now ≡ true
+    → Reads (values_within n) (list1 (inner x)) s r s'
+    → Reads (values_within n) (list (inner x)) s r s'
 some-values n x {s = s} h y = left (or-this _ (kid-begins x s.now ∙ h)) y
   where
     or-this : (b : Bool) → b ≡ true → (b || false) ≡ true

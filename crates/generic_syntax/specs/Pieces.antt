@@ -1,15 +1,16 @@
 -- Pieces of the grammar of values that grammars above it take whole.
 --
--- A definition file has values in it, and a module has, but neither leads back from a value to
--- itself. So what they take of the grammar of values are nonterminals to them, each known by its
--- tree, its tokens, its reader and its tables. All of it is computed from the one grammar of values.
+-- Definition files and modules have values in them, and no value has one of them. So what they take
+-- of the grammar of values are nonterminals to them, each known by its tree, its tokens, its reader
+-- and its tables. All of it is computed from the one grammar of values.
 --
 --   piece p               the grammar of the piece p
 --   IsPiece p ts v        the tokens ts are the piece p, with the tree v
 --   deep_piece n p ts     the last of ts begins a value too deep, where values may nest n deep
 --   piece_at n p          the reader of a piece in which values may nest n deep
 --   piece_looks p, piece_more_looks p
---                         tables: with which tokens a piece begins, and which go on with a whole one
+--                         tables: with which tokens a piece begins, and which go on with a whole
+--                         one
 --   pieces_within n       how pieces are read in which values may nest n deep
 use Rattle.std.specs.Prelude.{ℕ, ◌==◌, List}
 use Rattle.generic_syntax.specs.declared.cst.EntryCst.{EntryCst}

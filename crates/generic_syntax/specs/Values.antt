@@ -255,7 +255,9 @@ string_text = tok false (any_of c.Str) (λ t. literal_bytes t.text)
 
 -- A key, which also begins the unit value where no `=` follows.
 abbrev pub key : OfValues Text
-key = alt (tok true (any_of c.Word) (λ t. t.text)) (tok true (any_of c.Str) (λ t. literal_bytes t.text))
+key =
+    alt (tok true (any_of c.Word) (λ t. t.text))
+    (tok true (any_of c.Str) (λ t. literal_bytes t.text))
 
 -- the value of an entry, or none
 abbrev pub value_behind : OfValues (Option ValueCst)

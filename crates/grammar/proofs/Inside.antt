@@ -1,4 +1,4 @@
--- What stands inside a piece and begins a value one deeper: nonterminals, and tokens that are values.
+-- What stands in a piece and begins a value one deeper: nonterminals, and tokens that are values.
 --
 --   at-kid, kid-went    a nonterminal, read by its own reader, and the other way round
 --   tok-deep            a token that begins a value where none may begin

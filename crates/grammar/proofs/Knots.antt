@@ -37,12 +37,13 @@ no-trees begins goes_on = record {
 }
 
 -- the same trees in other words, with the same tables
-pub trees-as : {A : Type 0} (R S : Tokens → A → Type 0) {begins begins2 goes_on goes_on2 : List Look}
-    → begins ≡ begins2 → goes_on ≡ goes_on2 → ((ts : Tokens) (a : A) → R ts a → S ts a)
+pub trees-as : {A : Type 0} (R S : Tokens → A → Type 0)
+    {begins begins2 goes_on goes_on2 : List Look} → begins ≡ begins2 → goes_on ≡ goes_on2 → ((ts : Tokens) (a : A) → R ts a → S ts a)
     → ((ts : Tokens) (a : A) → S ts a → R ts a) → KnownTrees R begins goes_on
     → KnownTrees S begins2 goes_on2
 trees-as R S b g into back x = record {
-  first = λ t ts a d. subst (λ (l : List Look). any l t ≡ true) b (x.first t ts a (back (t ∷ ts) a d));
+  first = λ t ts a d. subst (λ (l : List Look). any l t ≡ true) b
+      (x.first t ts a (back (t ∷ ts) a d));
   full = λ a d. x.full a (back [] a d);
   goes = λ d y e v w p q. subst (λ (l : List Look). any l y ≡ true) g
       (x.goes d y e v w (back d v p) (back (d ++ y ∷ e) w q));
@@ -73,9 +74,9 @@ pub guarded-begun : {X : Type 0} {Sem : X → Type 0} {Derived : (x : X) → Tok
     → ((x : X) → (ts : Tokens) × Some_of (Derived x) ts) → {A : Type 0} (g : G X Sem A)
     → check begins goes_on g ≡ true → guarded g ≡ true → (t : Token)
     → any (first_looks begins g) t ≡ true → HasMore (Some_of (Derives Derived g)) (t ∷ [])
-guarded-begun {Derived = Derived} {begins = begins} {goes_on = goes_on} trees sample g one guard t e =
-    begun-guarded Derived (by_looks begins) (kids-of trees) (record { sample = sample }) g
-    (decided trees g one) guard t (starts-back begins goes_on g t e)
+guarded-begun {Derived = D} {begins = first} {goes_on = more} trees sample g one guard t e =
+    begun-guarded D (by_looks first) (kids-of trees) (record { sample = sample }) g
+    (decided trees g one) guard t (starts-back first more g t e)
 
 -- ---- readers
 

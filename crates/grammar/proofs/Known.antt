@@ -1,9 +1,9 @@
 -- Grammars over nonterminals of which all is known that the theorem on grammars asks.
 --
 -- The theorem and its kin ask of nonterminals what they show of whole grammars. Here that is one
--- record for each nonterminal. From it follow, for a grammar that passes the check, the exact answer
--- of its reader, that tokens have one tree, and what a call that read a whole text answers. Such a
--- grammar is known in turn, so a grammar above may have it as a nonterminal.
+-- record for each nonterminal. From it follow, for a grammar that passes the check, the exact
+-- answer of its reader, that tokens have one tree, and what a call that read a whole text answers.
+-- Such a grammar is known in turn, so a grammar above may have it as a nonterminal.
 --
 --   KnownTrees, Trees     what is known of the trees of a nonterminal, and of each
 --   KnownReader, Known    the same with its reader
@@ -92,9 +92,9 @@ module _ {X : Type 0} {Sem : X → Type 0} {Derived : (x : X) → Tokens → Sem
 
 -- ---- readers
 
--- What is known of a nonterminal and its reader: its trees; that it has a piece, and one that begins
--- with each token of its table; that nothing is too deep before the first token, and what is too
--- deep begins a piece; and that the reader takes a token and answers exactly.
+-- What is known of a nonterminal and its reader: its trees; that it has a piece, and one that
+-- begins with each token of its table; that nothing is too deep before the first token, and what is
+-- too deep begins a piece; and that the reader takes a token and answers exactly.
 pub record KnownReader {A : Type 0} (R : Tokens → A → Type 0) (D : Lists)
     (begins goes_on : List Look) (p : Parser A) : Type 0 where
   pub trees : KnownTrees R begins goes_on
@@ -183,8 +183,8 @@ module _ {X : Type 0} {Sem : X → Type 0} {Derived : (x : X) → Tokens → Sem
     unfolding reads_in
     known-front =
         front-answered (Derives Derived g) (Deep Derived DeepKid none g)
-        (reads (by_looks begins) kid_at none g) (known-meets g one) (grammar-respells (trees-of known) g one met) s s'
-        r x
+        (reads (by_looks begins) kid_at none g) (known-meets g one)
+        (grammar-respells (trees-of known) g one met) s s' r x
 
     -- where there is a front, its tree
     pub known-accepts : Told s (λ ts.

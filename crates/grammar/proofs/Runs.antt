@@ -10,7 +10,7 @@
 --   at-tok, at-refused                 a token, or one that is refused
 --   took-token, took-refused, ..       one token, by the test and the step
 --   exit                               what the exit of a `?` hands on
-use Rattle.std.proofs.Common.{◌≡◌, ◌≢◌, ℕ, ◌+◌, ◌≤◌, ◌<◌, Bool, true, false, ◌&&◌, ◌||◌, [], ◌∷◌, ◌++◌, Some, Result, Ok, Err, OnOk, if◌then◌else◌, arith, refl, sym, ◌∙◌, ap, append_assoc}
+use Rattle.std.proofs.Common.{◌≡◌, ◌≢◌, ℕ, ◌+◌, ◌≤◌, Bool, true, false, ◌&&◌, ◌||◌, [], ◌∷◌, ◌++◌, Some, Result, Ok, Err, OnOk, if◌then◌else◌, arith, refl, ◌∙◌, ap}
 use Rattle.std.specs.Result.{IsErr, IsErrAnd}
 use Rattle.std.proofs.lemmas.Result.{err_from_is_err_and}
 use Rattle.ir_lexer.specs.declared.class.Class.TheVariants as class
@@ -21,11 +21,11 @@ use Rattle.ir_lexer.specs.Tokens.{Token}
 use Rattle.grammar.specs.declared.stop.SyntaxStop.{SyntaxStop}
 use Rattle.grammar.specs.declared.stop.SyntaxStop.TheVariants.{At, Failed, OutOfMemory}
 use Rattle.grammar.specs.Looks.{Look, passes}
-use Rattle.grammar.specs.Grammar.{Tokens, Parser, done, stop, and_then, ◌>>=◌, pure, read_tok, G, ret, tok, both, alt, made, placed, nullable, starts}
-use Rattle.grammar.specs.Ran.{GoneOver, HasRead, Went, Ran, CallHasCause, GoesOn, handed_on, code_by_class, Env, reads_in, size, Took, Reads, RefusesBy}
-use Rattle.grammar.proofs.Gone.{gone-none, gone-one, gone-then, head-is, place-is}
+use Rattle.grammar.specs.Grammar.{Tokens, done, stop, and_then, pure, read_tok, G, ret, tok, both, alt, made, placed, nullable, starts}
+use Rattle.grammar.specs.Ran.{Went, handed_on, code_by_class, Env, reads_in, size, Took, Reads, RefusesBy}
+use Rattle.grammar.proofs.Gone.{gone-none, head-is, place-is}
 use Rattle.grammar.proofs.Calls.{went-as, memory, tok-refused, tok-taken, failed-with, went-then, bind-ok, err-went, bind-err, pure-ran}
-use Rattle.grammar.proofs.Kept.{kept-same, kept-then, kept-err, kept-ok}
+use Rattle.grammar.proofs.Kept.{kept-err, kept-ok}
 
 -- ---- exits
 
