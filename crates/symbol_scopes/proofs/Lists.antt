@@ -1,12 +1,8 @@
 -- What stands at a place of a list, after a push or a write.
-use Rattle.std.proofs.Common.{◌≡◌, ℕ, zero, suc, ◌<◌, ◌⊎◌, inl, inr, Bool, true, false, List, [], ◌∷◌, ◌++◌, length, get_or, set, drop, take, map, replicate, refl, ap, sym, ◌∙◌, subst, arith, slice_get, bytes_eq, if◌then◌else◌, not, cond, nat_lt}
-use Rattle.std.specs.List.{AllByRecursion, position_or_len, position, IsDistinct}
+use Rattle.std.proofs.Common.{◌≡◌, ℕ, zero, suc, ◌<◌, ◌⊎◌, inl, inr, Bool, true, false, List, [], ◌∷◌, ◌++◌, length, set, drop, take, map, replicate, refl, ap, sym, ◌∙◌, subst, arith, slice_get, bytes_eq, if◌then◌else◌, nat_eq}
+use Rattle.std.specs.List.{AllByRecursion, IsDistinct}
 use Rattle.std.specs.Cmp.Lexicographic.{pointwise}
-use Rattle.std.proofs.Common.{Vec, nat_eq}
-use Rattle.std.proofs.lemmas.Bool.Decides.{nat_tests}
 use Rattle.std.proofs.lemmas.Slice.Eq.{bytes_eq-Decides}
-use Rattle.std.proofs.lemmas.Option.{slice_get-get_or}
-use Rattle.std.proofs.lemmas.List.Sums.{prefix_len_stops}
 use Rattle.std.specs.declared.option.Option.TheVariants.{Some, None}
 use Rattle.symbol_scopes.specs.ScopeMarks.{Name}
 use Rattle.symbol_scopes.specs.Slots.{AreDistinctNames}
@@ -163,41 +159,8 @@ get-unmap f [] n y e = absurd (cc)
 get-unmap f (x ∷ ns) zero y e = (x, refl, cc)
 get-unmap f (x ∷ ns) (suc n) y e = get-unmap f ns n y e
 
--- ---- what an index says of its name
-
--- the place that a search finds has something that passes
-pub position-there : {A : Type 0} (p : A → Bool) (xs : List A) (n : ℕ) → Some n ≡ position p xs
-    → (x : A) × (slice_get xs n ≡ Some x) × (p x ≡ true)
-position-there p [] n e = absurd (cc)
-position-there {A} p (x ∷ xs) n e =
-    by (nat_lt (position_or_len p (x ∷ xs)) (length (x ∷ xs))) refl e
-  where
-    passes : (b : Bool) → not b ≡ false → b ≡ true
-    passes true e = refl
-    passes false e = absurd (cc)
-
-    by : (b : Bool) → nat_lt (position_or_len p (x ∷ xs)) (length (x ∷ xs)) ≡ b
-        → Some n ≡ cond b (Some (position_or_len p (x ∷ xs))) None
-        → (y : A) × (slice_get (x ∷ xs) n ≡ Some y) × (p y ≡ true)
-    by true b e =
-        let at : n ≡ position_or_len p (x ∷ xs) = cc in
-        let less : position_or_len p (x ∷ xs) < length (x ∷ xs) = grind (arith, nat_tests) in
-        let stops = prefix_len_stops (λ y. not (p y)) (x ∷ xs) x less in (
-          get_or (x ∷ xs) n x,
-          slice_get-get_or (x ∷ xs) n x (omega arith),
-          ap (λ k. p (get_or (x ∷ xs) k x)) at ∙ passes _ stops,
-        )
-    by false b e = absurd (cc)
-
--- texts that vectors hold are apart where `==` finds them so
-pub distinct-texts : {Z : Type 0} (vs : List (Vec ℕ Z))
-    → IsDistinct (λ a b. pointwise nat_eq a.items b.items) vs → AreDistinctNames (map (λ v. v.items) vs)
+-- names are apart where `==` finds them so
+pub distinct-names : (ns : List Name) → IsDistinct (pointwise nat_eq) ns → AreDistinctNames ns
 unfolding IsDistinct
-distinct-texts [] d = tt
-distinct-texts (v ∷ vs) d = (heads v vs d.0, distinct-texts vs d.1)
-  where
-    heads : {Z : Type 0} (v : Vec ℕ Z) (vs : List (Vec ℕ Z))
-        → AllByRecursion (λ w. pointwise nat_eq v.items w.items ≡ false) vs
-        → AllByRecursion (λ y. bytes_eq v.items y ≡ false) (map (λ w. w.items) vs)
-    heads v [] all = tt
-    heads v (w ∷ vs) all = (all.0, heads v vs all.1)
+distinct-names [] d = tt
+distinct-names (n ∷ ns) d = (d.0, distinct-names ns d.1)

@@ -3,6 +3,7 @@
 ghost use Rattle.std.specs.Prelude.{◌≡◌, ◌<◌, ◌⊎◌, ◌++◌, ◌∷◌, [], Some, slice_get, length, IfOk, OnErr};
 ghost use Rattle.symbol_scopes.specs.Slots.{AreDistinctNames};
 
+use attr_value::Text;
 use indexmap::IndexSet;
 use std::alloc::{AllocError, Global};
 use std::marker::Model;
@@ -10,16 +11,16 @@ use std::marker::Model;
 /// Distinct names. Contracts see the list of them, in which the place of a name is its number.
 #[derive(Drop)]
 pub struct Names {
-    keys: IndexSet<Vec<u8>>,
+    keys: IndexSet<Text>,
     alloc: Global,
 }
 
 impl Model for Names {
-    ghost use Rattle.std.specs.Prelude.{List, ℕ, map};
+    ghost use Rattle.std.specs.Prelude.{List, ℕ};
 
     ghost Value = { List (List ℕ) };
 
-    ghost view = { λ s. map (λ v. v.items) s.keys.keys };
+    ghost view = { λ s. s.keys.keys };
 }
 
 impl Names {
@@ -50,23 +51,8 @@ impl Names {
         if self.len() >= u32::MAX as usize {
             return Err(AllocError);
         }
-        let place = self.place(name)?;
+        let name = Text::from_slice(self.alloc, name)?;
+        let (place, _) = self.keys.insert_full(name)?;
         Ok(place as u32)
-    }
-
-    /// The place of a name, which is kept from now on.
-    fn place(&mut self, name: &[u8]) -> Result<usize, AllocError>
-        ensures ok { IfOk result (λ n. slice_get self.new n ≡ Some name.now) }
-        ensures kept { (self.new ≡ self.old) ⊎ (self.new ≡ self.old ++ name.now ∷ []) }
-        ensures err { OnErr result (self.new ≡ self.old) }
-    {
-        match self.keys.get_index_of(name) {
-            Some(n) => Ok(n),
-            None => {
-                let name = Vec::from_slice(self.alloc, name)?;
-                let (n, _) = self.keys.insert_full(name)?;
-                Ok(n)
-            }
-        }
     }
 }
