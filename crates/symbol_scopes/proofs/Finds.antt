@@ -1,14 +1,15 @@
 -- The first definition of a name in a region, as definitions are gone over from the last one down.
-use Rattle.std.proofs.Common.{◌≡◌, ℕ, zero, suc, ◌+◌, ◌<◌, ◌≤◌, inl, inr, Bool, true, false, ◌&&◌, ◌||◌, ◌==◌, nat_lt, List, [], ◌∷◌, length, drop, min, refl, ap, sym, ◌∙◌, subst, arith, slice_get, bytes_eq, if◌then◌else◌}
+use Rattle.std.proofs.Common.{◌≡◌, ℕ, zero, suc, ◌+◌, ◌<◌, ◌≤◌, inl, inr, Bool, true, false, ◌&&◌, ◌||◌, ◌==◌, nat_lt, List, [], ◌∷◌, length, drop, min, refl, ap, sym, ◌∙◌, subst, arith, slice_get, bytes_eq, if◌then◌else◌, option_map}
 use Rattle.std.proofs.lemmas.Bool.{cases_lt, eqb-true}
 use Rattle.std.proofs.lemmas.Bool.Decides.{nat_tests}
+use Rattle.std.proofs.lemmas.Option.{slice_get_past, slice_get_within}
 use Rattle.std.specs.declared.option.Option.{Option}
 use Rattle.std.specs.declared.option.Option.TheVariants.{Some, None}
 use Rattle.symbol_scopes.specs.declared.slots.FoundBinding.{FoundBinding}
 use Rattle.symbol_scopes.specs.ScopeMarks.{Name, Binding}
 use Rattle.symbol_scopes.specs.Meanings.{is_of, found_at, first_from, first_in, meant, or_else, is_before, is_defined_before}
 use Rattle.symbol_scopes.specs.Listed.{last_own, is_in_region}
-use Rattle.symbol_scopes.specs.Slots.{at_or, least_of, Descend}
+use Rattle.symbol_scopes.specs.Slots.{at_or, found_in, least_of, Descend}
 use Rattle.symbol_scopes.proofs.Lists.{drop-here, drop-past, same-name}
 
 -- one past this definition, or 0
@@ -79,11 +80,6 @@ last-is ds r zero d e = absurd (cc)
 last-is ds r (suc k) d e =
     by (slice_get ds k) refl (is_in_region r (slice_get ds k)) refl (last-is ds r k d) e
   where
-    within : (ds : List Binding) (k : ℕ) (s : Binding) → slice_get ds k ≡ Some s → k < length ds
-    within [] k s e = absurd (cc)
-    within (x ∷ ds) zero s e = omega arith
-    within (x ∷ ds) (suc k) s e = let h = within ds k s e in omega arith
-
     by : (o : Option Binding) → slice_get ds k ≡ o → (b : Bool) → is_in_region r (slice_get ds k) ≡ b
         → (last_own ds r k ≡ Some d → IsOwn ds r k d)
         → (if b then Some k else last_own ds r k) ≡ Some d → IsOwn ds r (suc k) d
@@ -91,7 +87,7 @@ last-is ds r (suc k) d e =
     by (Some s) o true b below e =
         let same : k ≡ d = cc in
         let inside : (s.region == r) ≡ true = sym (ap (is_in_region r) o) ∙ b in
-        let less : k < length ds = within ds k s o in
+        let less : k < length ds = slice_get_within ds k s o in
         record {
           below = omega arith;
           within = omega arith;
@@ -230,6 +226,41 @@ meant-below ds (q ∷ round) r x f descend e =
         let region : g.region ≡ q = ap (λ k. k.region) h.is ∙ h.own in
         let less = descend.0 in
         subst (λ k. k.region < r) same (omega arith)
+
+-- what may be found is there, by its number
+abbrev pub IsKnown : List Binding → Option FoundBinding → Type 0
+IsKnown ds None = Unit {0}
+IsKnown ds (Some f) = found_in ds f.at ≡ Some f
+
+-- what is found from k on is there
+pub from-known : (ds : List Binding) (k r : ℕ) (x : Name) → IsKnown ds (from ds k r x)
+from-known ds k r x = by (from ds k r x) refl
+  where
+    by : (o : Option FoundBinding) → from ds k r x ≡ o → IsKnown ds o
+    by None e = tt
+    by (Some f) e =
+        let h = found-is ds k r x f e in
+        ap (option_map (found_at f.at)) h.there ∙ ap Some (sym h.is)
+
+-- the first of two that are there is there
+pub or_else-known : (ds : List Binding) (a b : Option FoundBinding) → IsKnown ds a → IsKnown ds b
+    → IsKnown ds (or_else a b)
+or_else-known ds None b h k = k
+or_else-known ds (Some f) b h k = h
+
+-- what is meant is there
+pub meant-known : (ds : List Binding) (round : List ℕ) (x : Name) → IsKnown ds (meant ds round x)
+meant-known ds [] x = tt
+meant-known ds (r ∷ round) x =
+    or_else-known ds (first_in ds r x) (meant ds round x) (from-known ds 0 r x)
+    (meant-known ds round x)
+
+-- what is there is found again by its number
+pub found-again : (ds : List Binding) (o : Option FoundBinding) → IsKnown ds o
+    → found_in ds (at_or (length ds) o) ≡ o
+found-again ds None h =
+    ap (option_map (found_at (length ds))) (slice_get_past ds (length ds) (omega arith))
+found-again ds (Some f) h = h
 
 -- the least number is at most how many definitions there are
 pub least-most : (ds : List Binding) (round : List ℕ) (x : Name) → least_of ds round x ≤ length ds

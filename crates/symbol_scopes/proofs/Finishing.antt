@@ -19,18 +19,16 @@ first-of-all ms a b c x y z =
     (IsFaultBy alias_fault ms) (earlier_of a b) c
     (first-either (IsFaultBy (values_rule ms) ms) (IsFaultBy (blocks_rule ms) ms) a b x y) z
 
--- the same, of three readings of the calls
-pub first-of-three : (ns : List Name) (calls x y z : List Call) (ms : List ScopeMark)
-    (a b c both all : Option Fault)
-    → marks_of ns calls ≡ ms → x ≡ calls → y ≡ calls → z ≡ calls
-    → IsFirst (IsFaultBy (values_rule (marks_of ns x)) (marks_of ns x)) a
-    → IsFirst (IsFaultBy (blocks_rule (marks_of ns y)) (marks_of ns y)) b
-    → IsFirst (IsFaultBy alias_fault (marks_of ns z)) c
+-- the same, of the marks that calls stand for
+pub first-of-three : (ns : List Name) (calls : List Call) (ms : List ScopeMark)
+    (a b c both all : Option Fault) → marks_of ns calls ≡ ms
+    → IsFirst (IsFaultBy (values_rule (marks_of ns calls)) (marks_of ns calls)) a
+    → IsFirst (IsFaultBy (blocks_rule (marks_of ns calls)) (marks_of ns calls)) b
+    → IsFirst (IsFaultBy alias_fault (marks_of ns calls)) c
     → both ≡ earlier_of a b → all ≡ earlier_of both c
     → IsFirst (IsNameFault ms) all
-first-of-three ns calls x y z ms a b c both all e ex ey ez p q r first second =
-    subst (IsFirst (IsNameFault ms)) (sym (second ∙ ap (λ o. earlier_of o c) first))
-    (first-of-all ms a b c
-    (subst (λ (l : List ScopeMark). IsFirst (IsFaultBy (values_rule l) l) a) (ap (marks_of ns) ex ∙ e) p)
-    (subst (λ (l : List ScopeMark). IsFirst (IsFaultBy (blocks_rule l) l) b) (ap (marks_of ns) ey ∙ e) q)
-    (subst (λ (l : List ScopeMark). IsFirst (IsFaultBy alias_fault l) c) (ap (marks_of ns) ez ∙ e) r))
+first-of-three ns calls ms a b c both all e p q r first second =
+    subst (λ (l : List ScopeMark). IsFirst (IsNameFault l) all) e
+    (subst (IsFirst (IsNameFault (marks_of ns calls)))
+    (sym (second ∙ ap (λ o. earlier_of o c) first))
+    (first-of-all (marks_of ns calls) a b c p q r))

@@ -1,21 +1,22 @@
 -- A walk that judges each mark where it stands.
-use Rattle.std.proofs.Common.{◌≡◌, ℕ, ◌+◌, ◌<◌, ◌≤◌, ◌==◌, nat_lt, true, false, List, [], ◌∷◌, ◌++◌, length, take, drop, refl, ap, sym, ◌∙◌, subst, arith, length-append, append_assoc, if◌then◌else◌}
+use Rattle.std.proofs.Common.{◌≡◌, ℕ, ◌+◌, ◌<◌, ◌≤◌, ◌==◌, nat_lt, true, false, List, [], ◌∷◌, ◌++◌, length, map, take, drop, refl, ap, sym, ◌∙◌, subst, arith, length-append, append_assoc, if◌then◌else◌}
 use Rattle.std.proofs.lemmas.Bool.Decides.{nat_tests}
-use Rattle.std.proofs.lemmas.List.{take-append-drop}
+use Rattle.std.proofs.lemmas.List.{take-append-drop, map-append}
 use Rattle.std.specs.declared.option.Option.{Option}
 use Rattle.std.specs.declared.option.Option.TheVariants.{Some, None}
 use Rattle.symbol_scopes.specs.declared.slots.FoundBinding.{FoundBinding}
 use Rattle.symbol_scopes.specs.declared.call.NameKind.{NameKind}
 use Rattle.symbol_scopes.specs.declared.slots.NameSlot.{NameSlot}
 use Rattle.symbol_scopes.specs.declared.call.Call.{Call}
-use Rattle.symbol_scopes.specs.declared.call.Call.TheVariants.{Define}
+use Rattle.symbol_scopes.specs.declared.call.Call.TheVariants.{Name as NameCall}
+use Rattle.symbol_scopes.specs.declared.call.Said.TheVariants.{Define}
 use Rattle.symbol_scopes.specs.declared.rows.Listed.{Listed}
-use Rattle.first_fault.specs.Firsts.{IsFirst, IsFaultBy}
+use Rattle.first_fault.specs.Firsts.{IsFirst, IsFaultBy, Rule}
 use Rattle.symbol_scopes.specs.Faults.{value_fault, fault_if}
 use Rattle.first_fault.specs.Firsts.{earlier_of}
 use Rattle.first_fault.specs.declared.fault.Fault.{Fault}
 use Rattle.first_fault.proofs.Firsts.{earlier_of-both-none}
-use Rattle.first_fault.proofs.Rules.{first-more}
+use Rattle.first_fault.proofs.Rules.{first-more, first-none}
 use Rattle.symbol_scopes.specs.Calls.{numbered_name, mark_of}
 use Rattle.symbol_scopes.specs.declared.walk.Walk.{Walk}
 use Rattle.symbol_scopes.specs.ScopeMarks.{Name, ScopeMark, Binding, Standing, passed, after, along, top, standing, bindings, bindings_of, own}
@@ -82,6 +83,44 @@ pub record Going (ns : List Name) (ms : List ScopeMark) (k : NameKind) (l : List
   pub slots : AreSlots ns (bindings_in ns l) w.round.round w.slots
   pub before-is : before ≡ length (bindings k (take i ms))
 
+-- the fault of a mark, by the definitions of the text, the open regions and how many definitions
+-- stand before
+abbrev pub FaultBy : Type 0
+FaultBy = List Binding → List ℕ → ℕ → ScopeMark → Option Fault
+
+-- what a mark means, by the definitions of the text and the open regions
+abbrev pub MeaningBy : Type 0 → Type 0
+MeaningBy A = List Binding → List ℕ → ScopeMark → List (Option A)
+
+-- such faults as a rule of the marks of a text
+abbrev pub rule_in : List ScopeMark → NameKind → FaultBy → Rule ScopeMark
+rule_in ms k F bs m = F (bindings k ms) (standing bs).round (length (bindings k bs)) m
+
+-- a walk that has judged the first i marks: their first fault, and what they mean
+pub record Judges {A : Type 0} (ns : List Name) (ms : List ScopeMark) (k : NameKind) (l : Listed)
+    (F : FaultBy) (G : MeaningBy A) (w : Walk) (before i : ℕ) (found : Option Fault) (told : List A)
+    : Type 0 where
+  pub going : Going ns ms k l w before i
+  pub few : before ≤ i
+  pub first : IsFirst (IsFaultBy (rule_in ms k F) (take i ms)) found
+  pub meanings : found ≡ None → map Some told ≡ along (G (bindings k ms)) top (take i ms)
+
+-- at the end all marks are judged
+pub judges-first : {A : Type 0} (ns : List Name) (ms : List ScopeMark) (k : NameKind) (l : Listed)
+    (F : FaultBy) (G : MeaningBy A) (w : Walk) (before i : ℕ) (found : Option Fault) (told : List A)
+    → Judges ns ms k l F G w before i found told → take i ms ≡ ms
+    → IsFirst (IsFaultBy (rule_in ms k F) ms) found
+judges-first ns ms k l F G w before i found told j whole =
+    subst (λ (l : List ScopeMark). IsFirst (IsFaultBy (rule_in ms k F) l) found) whole j.first
+
+-- and what they mean is said of all
+pub judges-meanings : {A : Type 0} (ns : List Name) (ms : List ScopeMark) (k : NameKind) (l : Listed)
+    (F : FaultBy) (G : MeaningBy A) (w : Walk) (before i : ℕ) (found : Option Fault) (told : List A)
+    → Judges ns ms k l F G w before i found told → take i ms ≡ ms
+    → found ≡ None → map Some told ≡ along (G (bindings k ms)) top ms
+judges-meanings ns ms k l F G w before i found told j whole none =
+    j.meanings none ∙ ap (along (G (bindings k ms)) top) whole
+
 module _ (ns : List Name) (ms : List ScopeMark) (k : NameKind) (l : Listed)
     (h : IsListed ns (bindings k ms) ((standing ms).entered + 1) l) where
   -- the table is that of its own definitions
@@ -147,32 +186,44 @@ module _ (ns : List Name) (ms : List ScopeMark) (k : NameKind) (l : Listed)
       ∙ ap (λ s. F (bindings k ms) s.round before m) g.round
       ∙ ap (λ n. F (bindings k ms) (standing (take i ms)).round n m) g.before-is
 
-  -- the first fault and the meanings, with one mark more
-  module _ {A : Type 0} (F : List Binding → List ℕ → ℕ → ScopeMark → Option Fault)
-      (G : List Binding → List ℕ → ScopeMark → List A) (w : Walk) (before i : ℕ) (m : ScopeMark)
-      (g : Going ns ms k l w before i) (x : Further ms i m) where
-    pub first-step : (a b new : Option Fault)
-        → b ≡ F (bindings_in ns l) w.round.round before m → new ≡ earlier_of a b
-        → IsFirst (IsFaultBy (λ bs q. F (bindings k ms) (standing bs).round (length (bindings k bs)) q) (take i ms)) a
-        → IsFirst (IsFaultBy (λ bs q. F (bindings k ms) (standing bs).round (length (bindings k bs)) q) (take (i + 1) ms)) new
-    first-step a b new is news was =
-        subst (λ (l : List ScopeMark). IsFirst (IsFaultBy (λ bs q. F (bindings k ms) (standing bs).round (length (bindings k bs)) q) l) new)
-        (sym x.longer)
-        (subst (IsFirst (IsFaultBy (λ bs q. F (bindings k ms) (standing bs).round (length (bindings k bs)) q) (take i ms ++ m ∷ [])))
-        (sym (news ∙ ap (earlier_of a) (is ∙ rule-is F w before i m g)))
-        (first-more (λ bs q. F (bindings k ms) (standing bs).round (length (bindings k bs)) q) (take i ms) m a was))
-
-    pub meanings-step : (a b new : Option Fault) (olds news : List A)
-        → b ≡ F (bindings_in ns l) w.round.round before m → new ≡ earlier_of a b
-        → (a ≡ None → olds ≡ along (G (bindings k ms)) top (take i ms))
-        → (b ≡ None → news ≡ olds ++ G (bindings_in ns l) w.round.round m)
-        → new ≡ None → news ≡ along (G (bindings k ms)) top (take (i + 1) ms)
-    meanings-step a b new olds news is new_is was more none =
-        let both = earlier_of-both-none a b (sym new_is ∙ none) in
-        more both.1 ∙ ap (λ y. y ++ G (bindings_in ns l) w.round.round m) (was both.0)
+  -- a walk that judges goes on by one mark
+  pub judges-step : {A : Type 0} (F : FaultBy) (G : MeaningBy A) (w new : Walk) (before i more : ℕ)
+      (m : ScopeMark) (a b next : Option Fault) (olds one news : List A)
+      → Judges ns ms k l F G w before i a olds → Further ms i m → new.round ≡ passed w.round m
+      → AreSlots ns (bindings_in ns l) new.round.round new.slots
+      → more ≡ length (bindings_of k w.round.round m) → more ≤ 1
+      → b ≡ F (bindings_in ns l) w.round.round before m
+      → (F (bindings_in ns l) w.round.round before m ≡ None
+      → map Some one ≡ G (bindings_in ns l) w.round.round m)
+      → next ≡ earlier_of a b → news ≡ olds ++ one
+      → Judges ns ms k l F G new (before + more) (i + 1) next news
+  judges-step F G w new before i more m a b next olds one news j x round slots count few is means found told = record {
+    going = going-step w new before i more m j.going x round slots count;
+    few = let less = j.few in omega arith;
+    first =
+        subst (λ (l : List ScopeMark). IsFirst (IsFaultBy (rule_in ms k F) l) next) (sym x.longer)
+        (subst (IsFirst (IsFaultBy (rule_in ms k F) (take i ms ++ m ∷ [])))
+        (sym (found ∙ ap (earlier_of a) (is ∙ rule-is F w before i m j.going)))
+        (first-more (rule_in ms k F) (take i ms) m a j.first));
+    meanings = λ none.
+        let both = earlier_of-both-none a b (sym found ∙ none) in
+        ap (map Some) told ∙ map-append Some olds one
+        ∙ ap (λ y. y ++ map Some one) (j.meanings both.0)
         ∙ ap (λ y. along (G (bindings k ms)) top (take i ms) ++ y)
-        (rule-is (λ ds round n q. G ds round q) w before i m g)
-        ∙ sym (further-along (G (bindings k ms)) ms i m x)
+        (means (sym is ∙ both.1) ∙ rule-is (λ ds round n q. G ds round q) w before i m j.going)
+        ∙ sym (further-along (G (bindings k ms)) ms i m x);
+  }
+
+  -- a walk that judges begins before the first mark
+  pub judges-start : {A : Type 0} (F : FaultBy) (G : MeaningBy A) (w : Walk) (a : Option Fault)
+      (told : List A) → w.round ≡ top → AreSlots ns (bindings_in ns l) w.round.round w.slots
+      → a ≡ None → told ≡ [] → Judges ns ms k l F G w 0 0 a told
+  judges-start F G w a told round slots none empty = record {
+    going = going-start w round slots;
+    few = omega arith;
+    first = subst (IsFirst (IsFaultBy (rule_in ms k F) [])) (sym none) (first-none (rule_in ms k F));
+    meanings = λ e. ap (map Some) empty;
+  }
 
 -- the same of regions that are written out
 pub own-is : (ds : List Binding) (r n : ℕ) (rest : List ℕ) (x : Name) → Descend n (r ∷ rest)
@@ -202,7 +253,7 @@ own-round ds n (r ∷ rest) x some descend = own-is ds r n rest x descend
 
 -- the fault of a definition, by the least number of an earlier one
 pub define-fault : (ns : List Name) (ds : List Binding) (round : List ℕ) (before : ℕ) (next : Call)
-    (name place count : ℕ) (slot : NameSlot) → next ≡ Define name place count
+    (name place count : ℕ) (slot : NameSlot) → next ≡ NameCall name (Define place count)
     → slot ≡ slot_of ds round (numbered_name ns name) → before ≤ length ds
     → value_fault ds round before (mark_of ns next) ≡ fault_if (nat_lt slot.least before) place 8
 define-fault ns ds round before next name place count slot e is most =

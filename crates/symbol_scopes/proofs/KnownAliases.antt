@@ -4,27 +4,15 @@ use Rattle.std.specs.List.{list_any}
 use Rattle.std.proofs.lemmas.Option.{slice_get-get_or, get_or_from_slice_get}
 use Rattle.symbol_scopes.specs.declared.aliases.AliasSet.{AliasSet}
 use Rattle.symbol_scopes.specs.declared.call.Call.{Call}
-use Rattle.symbol_scopes.specs.declared.call.Call.TheVariants as s
+use Rattle.symbol_scopes.specs.declared.call.Call.TheVariants as c
+use Rattle.symbol_scopes.specs.declared.call.Said.{Said}
+use Rattle.symbol_scopes.specs.declared.call.Said.TheVariants as s
 use Rattle.symbol_scopes.specs.ScopeMarks.{Name, ScopeMark}
 use Rattle.symbol_scopes.specs.Faults.{is_alias_known, defines_it}
 use Rattle.symbol_scopes.specs.Aliases.{KnowsAliases}
 use Rattle.symbol_scopes.specs.Slots.{AreDistinctNames}
-use Rattle.symbol_scopes.specs.Calls.{mark_of, numbered_name}
-use Rattle.symbol_scopes.proofs.Lists.{set-map, map-same, get-map}
-
-any-push : (p : ScopeMark → Bool) (xs : List ScopeMark) (m : ScopeMark)
-    → list_any p (xs ++ m ∷ []) ≡ (list_any p xs || p m)
-any-push p [] m = by (p m)
-  where
-    by : (b : Bool) → (b || false) ≡ b
-    by true = refl
-    by false = refl
-any-push p (x ∷ xs) m = by (p x) (any-push p xs m)
-  where
-    by : (b : Bool) → list_any p (xs ++ m ∷ []) ≡ (list_any p xs || p m)
-        → (b || list_any p (xs ++ m ∷ [])) ≡ ((b || list_any p xs) || p m)
-    by true e = refl
-    by false e = e
+use Rattle.symbol_scopes.specs.Calls.{mark_of, said_mark, numbered_name}
+use Rattle.symbol_scopes.proofs.Lists.{any-push, set-map, map-same, get-map}
 
 or-false : (b : Bool) → (b || false) ≡ b
 or-false true = refl
@@ -46,20 +34,31 @@ module _ (ns : List Name) (before : List ScopeMark) where
         (λ x. same before m false x (none false x));
   }
 
-  -- a call that defines no alias leaves the aliases that are known
-  pub knows-other : (k : AliasSet) (next : Call)
-      → ((t : Bool) (n p : ℕ) → next ≡ s.DefineAlias t n p → ⊥)
+  -- a call that says nothing of a name leaves the aliases that are known
+  pub knows-plain : (k : AliasSet) (next : Call)
+      → ((n : ℕ) (said : Said) → next ≡ c.Name n said → ⊥)
       → KnowsAliases ns before k → KnowsAliases ns (before ++ mark_of ns next ∷ []) k
-  knows-other k s.Enter unlike h = unchanged (mark_of ns s.Enter) k (λ t x. refl) h
-  knows-other k s.Leave unlike h = unchanged (mark_of ns s.Leave) k (λ t x. refl) h
-  knows-other k (s.Define a b c) unlike h = unchanged (mark_of ns (s.Define a b c)) k (λ t x. refl) h
-  knows-other k (s.Use a b c d) unlike h = unchanged (mark_of ns (s.Use a b c d)) k (λ t x. refl) h
-  knows-other k (s.Label a b c) unlike h = unchanged (mark_of ns (s.Label a b c)) k (λ t x. refl) h
-  knows-other k (s.LeadTo a b) unlike h = unchanged (mark_of ns (s.LeadTo a b)) k (λ t x. refl) h
-  knows-other k (s.BadPack a) unlike h = unchanged (mark_of ns (s.BadPack a)) k (λ t x. refl) h
-  knows-other k (s.DefineAlias a b c) unlike h = absurd (unlike a b c refl)
-  knows-other k (s.MentionAlias a b c) unlike h =
-      unchanged (mark_of ns (s.MentionAlias a b c)) k (λ t x. refl) h
+  knows-plain k c.Enter unlike h = unchanged (mark_of ns c.Enter) k (λ t x. refl) h
+  knows-plain k c.Leave unlike h = unchanged (mark_of ns c.Leave) k (λ t x. refl) h
+  knows-plain k (c.BadPack p) unlike h = unchanged (mark_of ns (c.BadPack p)) k (λ t x. refl) h
+  knows-plain k (c.Name n said) unlike h = absurd (unlike n said refl)
+
+  -- and so does one that doesn't define an alias
+  pub knows-other : (k : AliasSet) (next : Call) (n : ℕ) (said : Said) → next ≡ c.Name n said
+      → ((t : Bool) (p : ℕ) → said ≡ s.DefineAlias t p → ⊥)
+      → KnowsAliases ns before k → KnowsAliases ns (before ++ mark_of ns next ∷ []) k
+  knows-other k next n said e unlike h =
+      subst (λ x. KnowsAliases ns (before ++ mark_of ns x ∷ []) k) (sym e)
+      (unchanged (mark_of ns (c.Name n said)) k (by said unlike) h)
+    where
+      by : (said : Said) → ((t : Bool) (p : ℕ) → said ≡ s.DefineAlias t p → ⊥)
+          → (t : Bool) (x : Name) → defines_it t x (said_mark (numbered_name ns n) said) ≡ false
+      by (s.Define p k) unlike t x = refl
+      by (s.Use p k q) unlike t x = refl
+      by (s.Label p b) unlike t x = refl
+      by (s.LeadTo p) unlike t x = refl
+      by (s.DefineAlias a p) unlike t x = absurd (unlike a p refl)
+      by (s.MentionAlias a p) unlike t x = refl
 
   -- the other kind of alias is as it was
   across : (m : ScopeMark) (t : Bool) → ((x : Name) → defines_it t x m ≡ false)
@@ -88,28 +87,28 @@ module _ (ns : List Name) (before : List ScopeMark) where
 
   -- a call that defines an alias of types makes it known
   pub knows-type : (old new : AliasSet) (next : Call) (t : Bool) (n p : ℕ) → AreDistinctNames ns → n < length ns
-      → next ≡ s.DefineAlias t n p → t ≡ true → KnowsAliases ns before old
+      → next ≡ c.Name n (s.DefineAlias t p) → t ≡ true → KnowsAliases ns before old
       → new.types.items ≡ set old.types.items n true → new.attributes ≡ old.attributes
       → KnowsAliases ns (before ++ mark_of ns next ∷ []) new
   knows-type old new next t n p distinct within e is h types attributes =
-      let now : next ≡ s.DefineAlias true n p = e ∙ ap (λ b. s.DefineAlias b n p) is in
+      let now : next ≡ c.Name n (s.DefineAlias true p) = e ∙ ap (λ b. c.Name n (s.DefineAlias b p)) is in
       subst (λ x. KnowsAliases ns (before ++ mark_of ns x ∷ []) new) (sym now) (record {
-        types = types ∙ added (mark_of ns (s.DefineAlias true n p)) true n old.types.items distinct within (λ x. refl) h.types;
+        types = types ∙ added (mark_of ns (c.Name n (s.DefineAlias true p))) true n old.types.items distinct within (λ x. refl) h.types;
         attributes = ap (λ v. v.items) attributes ∙ h.attributes
-            ∙ across (mark_of ns (s.DefineAlias true n p)) false (λ x. refl);
+            ∙ across (mark_of ns (c.Name n (s.DefineAlias true p))) false (λ x. refl);
       })
 
   -- a call that defines an alias of attributes makes it known
   pub knows-attribute : (old new : AliasSet) (next : Call) (t : Bool) (n p : ℕ) → AreDistinctNames ns → n < length ns
-      → next ≡ s.DefineAlias t n p → t ≡ false → KnowsAliases ns before old
+      → next ≡ c.Name n (s.DefineAlias t p) → t ≡ false → KnowsAliases ns before old
       → new.attributes.items ≡ set old.attributes.items n true → new.types ≡ old.types
       → KnowsAliases ns (before ++ mark_of ns next ∷ []) new
   knows-attribute old new next t n p distinct within e is h attributes types =
-      let now : next ≡ s.DefineAlias false n p = e ∙ ap (λ b. s.DefineAlias b n p) is in
+      let now : next ≡ c.Name n (s.DefineAlias false p) = e ∙ ap (λ b. c.Name n (s.DefineAlias b p)) is in
       subst (λ x. KnowsAliases ns (before ++ mark_of ns x ∷ []) new) (sym now) (record {
-        attributes = attributes ∙ added (mark_of ns (s.DefineAlias false n p)) false n old.attributes.items distinct within (λ x. refl) h.attributes;
+        attributes = attributes ∙ added (mark_of ns (c.Name n (s.DefineAlias false p))) false n old.attributes.items distinct within (λ x. refl) h.attributes;
         types = ap (λ v. v.items) types ∙ h.types
-            ∙ across (mark_of ns (s.DefineAlias false n p)) true (λ x. refl);
+            ∙ across (mark_of ns (c.Name n (s.DefineAlias false p))) true (λ x. refl);
       })
 
 -- what stands at the number of a name

@@ -6,6 +6,7 @@ pub mod Walks
 pub mod Judging
 pub mod KnownAliases
 pub mod Noting
+pub mod Steps
 pub mod Finishing
 pub mod Regions
 pub mod Unlabelled

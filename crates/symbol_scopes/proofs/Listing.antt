@@ -12,8 +12,10 @@ use Rattle.symbol_scopes.specs.ScopeMarks.{Name, Binding, ScopeMark, own, bindin
 use Rattle.symbol_scopes.specs.declared.call.NameKind.{NameKind}
 use Rattle.symbol_scopes.specs.declared.call.NameKind.TheVariants.{Values, Labels}
 use Rattle.symbol_scopes.specs.declared.call.Call.{Call}
-use Rattle.symbol_scopes.specs.declared.call.Call.TheVariants.{Define, Label}
-use Rattle.symbol_scopes.specs.Calls.{numbered_name, mark_of}
+use Rattle.symbol_scopes.specs.declared.call.Call.TheVariants as c
+use Rattle.symbol_scopes.specs.declared.call.Said.{Said}
+use Rattle.symbol_scopes.specs.declared.call.Said.TheVariants as s
+use Rattle.symbol_scopes.specs.Calls.{numbered_name, mark_of, said_mark, defined}
 use Rattle.symbol_scopes.specs.Listed.{binding_of, bindings_in, is_in_region, last_own, IsListed}
 use Rattle.symbol_scopes.specs.Slots.{Descend}
 use Rattle.symbol_scopes.proofs.Lists.{get-front, get-seam, get-push, get-before, get-written, get-unwritten, get-unmap}
@@ -188,7 +190,7 @@ pub listed-same : (ns : List Name) (a b : List Binding) (m n : ℕ) (l : Listed)
 listed-same ns a b m n l e f h =
     subst (λ (x : List Binding). IsListed ns x n l) e (subst (λ (k : ℕ). IsListed ns a k l) f h)
 
--- a passed that defines nothing
+-- a mark that defines nothing
 pub none-more : (k : NameKind) (round : List ℕ) (m : ScopeMark) (ds : List Binding) → bindings_of k round m ≡ []
     → ds ≡ ds ++ bindings_of k round m
 none-more k round m ds e = sym (ap (λ l. ds ++ l) e ∙ append-nil ds)
@@ -198,22 +200,44 @@ pub enters-none : (k : NameKind) (round : List ℕ) → bindings_of k round ente
 enters-none Values round = refl
 enters-none Labels round = refl
 
--- the definition of a value name, as a row and as a mark
-pub binding-value : (ns : List Name) (k : NameKind) (round : List ℕ) (next : Call) (region name place count : ℕ)
-    → next ≡ Define name place count → k ≡ Values → region ≡ own round
-    → (record { name = numbered_name ns name; region = region; number = count }) ∷ []
-    ≡ bindings_of k round (mark_of ns next)
-binding-value ns k round next region name place count e f g =
-    ap (λ r. (record { name = numbered_name ns name; region = r; number = count }) ∷ []) g
-    ∙ sym (ap (λ x. bindings_of k round (mark_of ns x)) e
-    ∙ ap (λ x. bindings_of x round (mark_of ns (Define name place count))) f)
+-- the definition with this number
+abbrev pub binding_with : List ℕ → Name → ℕ → Binding
+binding_with round name number = record { name = name; region = own round; number = number }
 
--- the definition of a label, as a row and as a mark
-pub binding-label : (ns : List Name) (k : NameKind) (round : List ℕ) (next : Call) (region name place block : ℕ)
-    → next ≡ Label name place block → k ≡ Labels → region ≡ own round
-    → (record { name = numbered_name ns name; region = region; number = block }) ∷ []
+-- what is said of a name defines it with the number that it gives
+pub bindings-said : (k : NameKind) (round : List ℕ) (name : Name) (said : Said)
+    → bindings_of k round (said_mark name said)
+    ≡ map (binding_with round name) (option_to_list (defined k said))
+bindings-said Values round name (s.Define p n) = refl
+bindings-said Values round name (s.Use p n q) = refl
+bindings-said Values round name (s.Label p n) = refl
+bindings-said Values round name (s.LeadTo p) = refl
+bindings-said Values round name (s.DefineAlias t p) = refl
+bindings-said Values round name (s.MentionAlias t p) = refl
+bindings-said Labels round name (s.Define p n) = refl
+bindings-said Labels round name (s.Use p n q) = refl
+bindings-said Labels round name (s.Label p n) = refl
+bindings-said Labels round name (s.LeadTo p) = refl
+bindings-said Labels round name (s.DefineAlias t p) = refl
+bindings-said Labels round name (s.MentionAlias t p) = refl
+
+-- the definition of a name, as a row and as a mark
+pub binding-row : (ns : List Name) (k : NameKind) (round : List ℕ) (next : Call) (region name number : ℕ)
+    (said : Said) (found : Option ℕ) → next ≡ c.Name name said → found ≡ defined k said
+    → found ≡ Some number → region ≡ own round
+    → (record { name = numbered_name ns name; region = region; number = number }) ∷ []
     ≡ bindings_of k round (mark_of ns next)
-binding-label ns k round next region name place block e f g =
-    ap (λ r. (record { name = numbered_name ns name; region = r; number = block }) ∷ []) g
+binding-row ns k round next region name number said found e is some f =
+    ap (λ r. (record { name = numbered_name ns name; region = r; number = number }) ∷ []) f
     ∙ sym (ap (λ x. bindings_of k round (mark_of ns x)) e
-    ∙ ap (λ x. bindings_of x round (mark_of ns (Label name place block))) f)
+    ∙ bindings-said k round (numbered_name ns name) said
+    ∙ ap (λ o. map (binding_with round (numbered_name ns name)) (option_to_list o)) (sym is ∙ some))
+
+-- what is said of a name may define nothing
+pub binding-none : (ns : List Name) (k : NameKind) (round : List ℕ) (next : Call) (name : ℕ)
+    (said : Said) (found : Option ℕ) → next ≡ c.Name name said → found ≡ defined k said
+    → found ≡ None → bindings_of k round (mark_of ns next) ≡ []
+binding-none ns k round next name said found e is none =
+    ap (λ x. bindings_of k round (mark_of ns x)) e
+    ∙ bindings-said k round (numbered_name ns name) said
+    ∙ ap (λ o. map (binding_with round (numbered_name ns name)) (option_to_list o)) (sym is ∙ none)

@@ -1,6 +1,6 @@
 -- What stands at a place of a list, after a push or a write.
-use Rattle.std.proofs.Common.{◌≡◌, ℕ, zero, suc, ◌<◌, ◌⊎◌, inl, inr, Bool, true, false, List, [], ◌∷◌, ◌++◌, length, set, drop, take, map, replicate, refl, ap, sym, ◌∙◌, subst, arith, slice_get, bytes_eq, if◌then◌else◌, nat_eq}
-use Rattle.std.specs.List.{AllByRecursion, IsDistinct}
+use Rattle.std.proofs.Common.{◌≡◌, ℕ, zero, suc, ◌<◌, ◌⊎◌, inl, inr, Bool, true, false, ◌||◌, List, [], ◌∷◌, ◌++◌, length, set, drop, take, map, replicate, refl, ap, sym, ◌∙◌, subst, arith, slice_get, bytes_eq, if◌then◌else◌, nat_eq}
+use Rattle.std.specs.List.{AllByRecursion, IsDistinct, list_any}
 use Rattle.std.specs.Cmp.Lexicographic.{pointwise}
 use Rattle.std.proofs.lemmas.Slice.Eq.{bytes_eq-Decides}
 use Rattle.std.specs.declared.option.Option.TheVariants.{Some, None}
@@ -78,6 +78,41 @@ module _ {A : Type 0} where
   drop-past [] (suc i) e = refl
   drop-past (y ∷ xs) zero e = absurd (cc)
   drop-past (y ∷ xs) (suc i) e = drop-past xs i e
+
+-- ---- what holds of each, and of one
+
+module _ {A : Type 0} (P : A → Type 0) where
+  -- what holds of each item and of one more
+  pub all-push : (xs : List A) (x : A) → AllByRecursion P xs → P x → AllByRecursion P (xs ++ x ∷ [])
+  all-push [] x h k = (k, tt)
+  all-push (y ∷ xs) x h k = (h.0, all-push xs x h.1 k)
+
+  -- what holds of each item holds of that at a place
+  pub all-at : (xs : List A) (i : ℕ) (x : A) → AllByRecursion P xs → slice_get xs i ≡ Some x → P x
+  all-at [] i x h e = absurd (cc)
+  all-at (y ∷ xs) zero x h e = let same : y ≡ x = cc in subst P same h.0
+  all-at (y ∷ xs) (suc i) x h e = all-at xs i x h.1 e
+
+  -- what follows from what holds of each item holds of each
+  pub all-weaker : (Q : A → Type 0) (xs : List A) → ((x : A) → P x → Q x) → AllByRecursion P xs
+      → AllByRecursion Q xs
+  all-weaker Q [] less h = tt
+  all-weaker Q (x ∷ xs) less h = (less x h.0, all-weaker Q xs less h.1)
+
+-- a test that one of the items or one more passes
+pub any-push : {A : Type 0} (p : A → Bool) (xs : List A) (m : A)
+    → list_any p (xs ++ m ∷ []) ≡ (list_any p xs || p m)
+any-push {A} p [] m = by (p m)
+  where
+    by : (b : Bool) → (b || false) ≡ b
+    by true = refl
+    by false = refl
+any-push {A} p (x ∷ xs) m = by (p x) (any-push p xs m)
+  where
+    by : (b : Bool) → list_any p (xs ++ m ∷ []) ≡ (list_any p xs || p m)
+        → (b || list_any p (xs ++ m ∷ [])) ≡ ((b || list_any p xs) || p m)
+    by true e = refl
+    by false e = e
 
 -- ---- names, each once
 

@@ -8,10 +8,11 @@ use Rattle.std.specs.declared.result.Result.TheVariants.{Ok, Err}
 use Rattle.std.specs.Result.{OnErr}
 use Rattle.symbol_scopes.specs.declared.call.NameKind.TheVariants.{Values}
 use Rattle.symbol_scopes.specs.declared.call.Call.{Call}
-use Rattle.symbol_scopes.specs.declared.call.Call.TheVariants as s
+use Rattle.symbol_scopes.specs.declared.call.Call.TheVariants as c
 use Rattle.symbol_scopes.specs.ScopeMarks.{Name, ScopeMark, Standing, passed, along, top, standing, bindings, bindings_of, uses_in, use_of, successors_in, successor_of}
 use Rattle.symbol_scopes.specs.ScopeMarks as mark
-use Rattle.symbol_scopes.specs.Calls.{mark_of, marks_of, numbered_name, IsNamed, AreNamed}
+use Rattle.symbol_scopes.specs.Calls.{mark_of, marks_of, said_mark, numbered_name, IsNamed, AreNamed}
+use Rattle.symbol_scopes.proofs.Lists.{all-push, all-weaker}
 use Rattle.symbol_scopes.proofs.Walks.{along-more}
 
 -- a passed's name stays where names are added
@@ -20,26 +21,16 @@ kept-name ns more n within = get_or-append ns more [] n within
 
 kept-mark : (ns more : List Name) (x : Call) → IsNamed (length ns) x
     → mark_of (ns ++ more) x ≡ mark_of ns x
-kept-mark ns more s.Enter h = refl
-kept-mark ns more s.Leave h = refl
-kept-mark ns more (s.Define n p c) h = ap (λ y. mark.defines (record { name = y; place = p; count = c })) (kept-name ns more n h)
-kept-mark ns more (s.Use n p k q) h = ap (λ y. mark.uses (record { name = y; place = p; number = k; number_place = q })) (kept-name ns more n h)
-kept-mark ns more (s.Label n p b) h = ap (λ y. mark.labels (record { name = y; place = p; block = b })) (kept-name ns more n h)
-kept-mark ns more (s.LeadTo n p) h = ap (λ y. mark.leads_to (record { name = y; place = p })) (kept-name ns more n h)
-kept-mark ns more (s.BadPack p) h = refl
-kept-mark ns more (s.DefineAlias t n p) h = ap (λ y. mark.defines_alias (record { is_type = t; name = y; place = p })) (kept-name ns more n h)
-kept-mark ns more (s.MentionAlias t n p) h = ap (λ y. mark.mentions_alias (record { is_type = t; name = y; place = p })) (kept-name ns more n h)
+kept-mark ns more c.Enter h = refl
+kept-mark ns more c.Leave h = refl
+kept-mark ns more (c.BadPack p) h = refl
+kept-mark ns more (c.Name n said) h = ap (λ y. said_mark y said) (kept-name ns more n h)
 
 kept-named : (m n : ℕ) (x : Call) → m ≤ n → IsNamed m x → IsNamed n x
-kept-named m n s.Enter le h = tt
-kept-named m n s.Leave le h = tt
-kept-named m n (s.Define a p c) le h = omega arith
-kept-named m n (s.Use a p k q) le h = omega arith
-kept-named m n (s.Label a p b) le h = omega arith
-kept-named m n (s.LeadTo a p) le h = omega arith
-kept-named m n (s.BadPack p) le h = tt
-kept-named m n (s.DefineAlias t a p) le h = omega arith
-kept-named m n (s.MentionAlias t a p) le h = omega arith
+kept-named m n c.Enter le h = tt
+kept-named m n c.Leave le h = tt
+kept-named m n (c.BadPack p) le h = tt
+kept-named m n (c.Name a said) le h = omega arith
 
 -- calls stand for the same marks where names are added
 pub kept-marks : (ns more : List Name) (calls : List Call) → AreNamed (length ns) calls
@@ -52,13 +43,7 @@ kept-marks ns more (x ∷ calls) h =
 
 -- the names of calls are among more names, too
 pub named-more : (m n : ℕ) (calls : List Call) → m ≤ n → AreNamed m calls → AreNamed n calls
-named-more m n [] le h = tt
-named-more m n (x ∷ calls) le h = (kept-named m n x le h.0, named-more m n calls le h.1)
-
-named-push : (n : ℕ) (calls : List Call) (x : Call) → AreNamed n calls → IsNamed n x
-    → AreNamed n (calls ++ x ∷ [])
-named-push n [] x h k = (k, tt)
-named-push n (y ∷ calls) x h k = (h.0, named-push n calls x h.1 k)
+named-more m n calls le = all-weaker (IsNamed m) (IsNamed n) calls (λ x. kept-named m n x le)
 
 -- names that may have grown by one
 pub grown-marks : (old new : List Name) (name : Name) (calls : List Call)
@@ -110,7 +95,7 @@ noted old new name calls x grown named here =
     let h = grown-marks old new name calls grown named in
     record {
       marks = map-append (mark_of new) calls (x ∷ []) ∙ ap (λ l. l ++ mark_of new x ∷ []) h.0;
-      named = named-push (length new) calls x h.1 here;
+      named = all-push (IsNamed (length new)) calls x h.1 here;
     }
 
 -- few are counted

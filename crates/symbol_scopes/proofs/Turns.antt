@@ -17,9 +17,9 @@ use Rattle.symbol_scopes.specs.ScopeMarks.{Name, Binding, own, behind_own}
 use Rattle.symbol_scopes.specs.Calls.{numbered_name}
 use Rattle.symbol_scopes.specs.Meanings.{is_of, found_at, meant, or_else}
 use Rattle.symbol_scopes.specs.Listed.{last_own, bindings_in, binding_of, IsListed}
-use Rattle.symbol_scopes.specs.Slots.{at_or, least_of, slot_of, Descend, AreDistinctNames, AreSlots, outer_of, outer_found, IsOuterKept, IsFoundKept}
+use Rattle.symbol_scopes.specs.Slots.{at_or, least_of, slot_of, Descend, AreDistinctNames, AreSlots, outer_of, outer_found}
 use Rattle.symbol_scopes.proofs.Lists.{set-map, map-same, map-one, get-map, get-written, get-unwritten, same-name}
-use Rattle.symbol_scopes.proofs.Finds.{bound, from, from-here, from-bound, from-end, IsOwn, last-is, last-below, found-is, meant-below, least-most, itself}
+use Rattle.symbol_scopes.proofs.Finds.{bound, from, from-here, from-bound, from-end, IsOwn, last-is, last-below, found-is, meant-below, least-most, itself, from-known, or_else-known, meant-known, found-again}
 
 -- the definition that is to be visited next is in the region
 abbrev pub IsNext : List Binding → ℕ → Option ℕ → Type 0
@@ -41,7 +41,7 @@ next-is ds r k most = by (last_own ds r k) refl
 -- all
 abbrev pub slot_from : List Binding → List ℕ → ℕ → ℕ → Name → NameSlot
 slot_from ds rest r b x = record {
-  found = or_else (from ds b r x) (meant ds rest x);
+  found = at_or (length ds) (or_else (from ds b r x) (meant ds rest x));
   least = min (at_or (length ds) (from ds b r x)) (least_of ds rest x);
 }
 
@@ -68,7 +68,7 @@ unseen : (ds : List Binding) (rest : List ℕ) (r b : ℕ) (x : Name) → from d
     → slot_from ds rest r b x ≡ slot_of ds rest x
 unseen ds rest r b x e =
     slot-same (slot_from ds rest r b x) (slot_of ds rest x)
-    (ap (λ o. or_else o (meant ds rest x)) e)
+    (ap (λ o. at_or (length ds) (or_else o (meant ds rest x))) e)
     (ap (λ o. min (at_or (length ds) o) (least_of ds rest x)) e
     ∙ min-right (length ds) (least_of ds rest x) (least-most ds rest x))
 
@@ -84,15 +84,10 @@ module _ (ns : List Name) (ds : List Binding) (r : ℕ) (rest : List ℕ) where
     room = h.room;
     outer = h.saved;
     inside = λ d s there region behind. absurd (
-        let less = last-below ds r (length ds) d s there region (within ds d s there) in
+        let less = last-below ds r (length ds) d s there region (slice_get_within ds d s there) in
         omega arith);
     next = next-is ds r (length ds) (omega arith);
   }
-    where
-      within : (ds : List Binding) (k : ℕ) (s : Binding) → slice_get ds k ≡ Some s → k < length ds
-      within [] k s e = absurd (cc)
-      within (x ∷ ds) zero s e = omega arith
-      within (x ∷ ds) (suc k) s e = let h = within ds k s e in omega arith
 
   -- with all definitions visited the region is open
   pub begins-end : (t : NameSlots) → Begins ns ds r rest None t → AreSlots ns ds (r ∷ rest) t
@@ -113,65 +108,41 @@ module _ (ns : List Name) (ds : List Binding) (r : ℕ) (rest : List ℕ) where
   -- the slot outside is found
   module _ (descend : Descend r rest) (t : NameSlots) (d : ℕ) (b : Begins ns ds r rest (Some d) t)
       (s : Binding) (there : slice_get ds d ≡ Some s) where
-    pub slot-kept : (slot : NameSlot) → slot ≡ slot_from ds rest r (suc d) s.name
-        → IsOuterKept slot (length t.saved.items) r
-    slot-kept slot is = by (from ds (suc d) r s.name) refl slot.found (ap (λ l. l.found) is)
-      where
-        within : (ds : List Binding) (k : ℕ) (s : Binding) → slice_get ds k ≡ Some s → k < length ds
-        within [] k s e = absurd (cc)
-        within (x ∷ ds) zero s e = omega arith
-        within (x ∷ ds) (suc k) s e = let h = within ds k s e in omega arith
-
-        by : (o : Option FoundBinding) → from ds (suc d) r s.name ≡ o → (g : Option FoundBinding)
-            → g ≡ or_else (from ds (suc d) r s.name) (meant ds rest s.name)
-            → IsFoundKept g (length t.saved.items) r
-        by o e None is = tt
-        by None e (Some g) is = λ region.
-            let m : meant ds rest s.name ≡ Some g =
-            sym (is ∙ ap (λ o. or_else o (meant ds rest s.name)) e) in
-            let less = meant-below ds rest r s.name g descend m in
-            absurd (omega arith)
-        by (Some f) e (Some g) is = λ region.
-            let same : Some g ≡ Some f = is ∙ ap (λ o. or_else o (meant ds rest s.name)) e in
-            let one : g ≡ f = cc in
-            let h = found-is ds (suc d) r s.name f e in
-            let less = within ds f.at h.binding h.there in
-            let at : g.at ≡ f.at = ap (λ k. k.at) one in
-            let room = b.room in
-            omega arith
-
     pub outside-is : (slot : NameSlot) → slot ≡ slot_from ds rest r (suc d) s.name
-        → outer_of slot t.saved.items r ≡ slot_of ds rest s.name
+        → outer_of ds slot t.saved.items r ≡ slot_of ds rest s.name
     outside-is slot is =
-        subst (λ l. outer_of l t.saved.items r ≡ slot_of ds rest s.name) (sym is)
-        (by (from ds (suc d) r s.name) refl (meant ds rest s.name) refl)
+        subst (λ l. outer_of ds l t.saved.items r ≡ slot_of ds rest s.name) (sym is)
+        (ap (λ o. outer_found o inside t.saved.items r)
+        (found-again ds (or_else first (meant ds rest s.name))
+        (or_else-known ds first (meant ds rest s.name) (from-known ds (suc d) r s.name)
+        (meant-known ds rest s.name)))
+        ∙ by first refl (meant ds rest s.name) refl)
       where
+        first : Option FoundBinding
+        first = from ds (suc d) r s.name
+
+        inside : NameSlot
+        inside = slot_from ds rest r (suc d) s.name
+
         other : (n : ℕ) → n < r → (n == r) ≡ false
         other n less = grind (arith, nat_tests)
 
-        by : (o : Option FoundBinding) → from ds (suc d) r s.name ≡ o
+        by : (o : Option FoundBinding) → first ≡ o
             → (m : Option FoundBinding) → meant ds rest s.name ≡ m
-            → outer_of (slot_from ds rest r (suc d) s.name) t.saved.items r
-            ≡ slot_of ds rest s.name
-        by None e None m =
-            ap (λ l. outer_of l t.saved.items r) (unseen ds rest r (suc d) s.name e)
-            ∙ ap (λ o. outer_found o (slot_of ds rest s.name) t.saved.items r) m
+            → outer_found (or_else o m) inside t.saved.items r ≡ slot_of ds rest s.name
+        by None e None m = unseen ds rest r (suc d) s.name e
         by None e (Some g) m =
-            ap (λ l. outer_of l t.saved.items r) (unseen ds rest r (suc d) s.name e)
-            ∙ ap (λ o. outer_found o (slot_of ds rest s.name) t.saved.items r) m
-            ∙ ap (λ b. if b then get_or t.saved.items g.at (slot_of ds rest s.name)
-            else slot_of ds rest s.name)
+            ap (λ b. if b then get_or t.saved.items g.at inside else inside)
             (other g.region (meant-below ds rest r s.name g descend m))
+            ∙ unseen ds rest r (suc d) s.name e
         by (Some f) e m is =
-            let slot = slot_from ds rest r (suc d) s.name in
             let h = found-is ds (suc d) r s.name f e in
             let region : f.region ≡ r = ap (λ k. k.region) h.is ∙ h.own in
             let behind = h.behind in
             let kept = b.inside f.at h.binding h.there h.own (omega arith) in
-            ap (λ o. outer_found (or_else o (meant ds rest s.name)) slot t.saved.items r) e
-            ∙ ap (λ n. if n == r then get_or t.saved.items f.at slot else slot) region
-            ∙ ap (λ b. if b then get_or t.saved.items f.at slot else slot) (itself r)
-            ∙ get_or_from_slice_get t.saved.items f.at (slot_of ds rest h.binding.name) slot kept
+            ap (λ n. if n == r then get_or t.saved.items f.at inside else inside) region
+            ∙ ap (λ b. if b then get_or t.saved.items f.at inside else inside) (itself r)
+            ∙ get_or_from_slice_get t.saved.items f.at (slot_of ds rest h.binding.name) inside kept
             ∙ ap (slot_of ds rest) h.named
 
     -- one definition more was visited
@@ -180,7 +151,7 @@ module _ (ns : List Name) (ds : List Binding) (r : ℕ) (rest : List ℕ) where
         → out ≡ slot_of ds rest s.name → next ≡ last_own ds r d
         → new.saved.items ≡ set t.saved.items d out
         → new.slots.items ≡ set t.slots.items n
-        (record { found = Some (found_at d s); least = min d out.least })
+        (record { found = d; least = min d out.least })
         → Begins ns ds r rest next new
     begins-step n out next new distinct named region is follows saved slots = record {
       slots = slots ∙ ap (λ l. set l n v) b.slots
@@ -194,7 +165,7 @@ module _ (ns : List Name) (ds : List Binding) (r : ℕ) (rest : List ℕ) where
     }
       where
         v : NameSlot
-        v = record { found = Some (found_at d s); least = min d out.least }
+        v = record { found = d; least = min d out.least }
 
         d-within : d < length ds
         d-within = b.next.within
@@ -224,14 +195,14 @@ module _ (ns : List Name) (ds : List Binding) (r : ℕ) (rest : List ℕ) where
                 let least : out.least ≡ least_of ds rest x =
                 ap (λ l. l.least) is ∙ ap (least_of ds rest) same in
                 slot-same v (slot_from ds rest r (bound next) x)
-                (sym (ap (λ o. or_else o (meant ds rest x)) found))
+                (sym (ap (λ o. at_or (length ds) (or_else o (meant ds rest x))) found))
                 (ap (min d) least
                 ∙ sym (ap (λ o. min (at_or (length ds) o) (least_of ds rest x)) found))
             by false e =
                 let found : from ds (bound next) r x ≡ from ds (suc d) r x =
                 stepped x ∙ ap (λ b. if b then Some (found_at d s) else from ds (suc d) r x) e in
                 slot-same (slot_from ds rest r (suc d) x) (slot_from ds rest r (bound next) x)
-                (sym (ap (λ o. or_else o (meant ds rest x)) found))
+                (sym (ap (λ o. at_or (length ds) (or_else o (meant ds rest x))) found))
                 (sym (ap (λ o. min (at_or (length ds) o) (least_of ds rest x)) found))
 
         -- a definition of another region isn't written
@@ -472,20 +443,3 @@ pub descend-behind : (n : ℕ) (round : List ℕ) → Descend n round
     → Descend (own round) (behind_own round)
 descend-behind n [] h = tt
 descend-behind n (r ∷ rest) h = h.1
-
--- what is written where a definition is visited
-pub written : (ns : List Name) (row : BindingRow) (slots : List NameSlot) (d r least : ℕ) (out : NameSlot)
-    → row.region ≡ r → least ≡ min d out.least
-    → set slots row.name (record {
-      found = Some (record { at = d; region = r; number = row.number });
-      least = least;
-    })
-    ≡ set slots row.name (record {
-      found = Some (found_at d (binding_of ns row));
-      least = min d out.least;
-    })
-written ns row slots d r least out region is =
-    (λ i. set slots row.name (record {
-      found = Some (record { at = d; region = sym region i; number = row.number });
-      least = is i;
-    }))

@@ -4,7 +4,8 @@ use Rattle.std.specs.List.{list_any}
 use Rattle.std.specs.declared.option.Option.TheVariants.{Some, None}
 use Rattle.first_fault.specs.Firsts.{IsFirst, IsFaultBy}
 use Rattle.symbol_scopes.specs.declared.call.Call.{Call}
-use Rattle.symbol_scopes.specs.declared.call.Call.TheVariants as s
+use Rattle.symbol_scopes.specs.declared.call.Call.TheVariants as c
+use Rattle.symbol_scopes.specs.declared.call.Said.TheVariants as s
 use Rattle.symbol_scopes.specs.declared.call.NameKind.TheVariants.{Labels}
 use Rattle.symbol_scopes.specs.ScopeMarks.{Name, ScopeMark, Binding, Standing, passed, along, top, standing, bindings}
 use Rattle.symbol_scopes.specs.Calls.{mark_of, marks_of, is_of_blocks}
@@ -17,27 +18,27 @@ either-false false b e = (refl, e)
 
 fault-none : (ns : List Name) (x : Call) (ls : List Binding) (round : List ℕ) (i : ℕ)
     → is_of_blocks x ≡ false → block_fault ls round i (mark_of ns x) ≡ None
-fault-none ns s.Enter ls round i e = refl
-fault-none ns s.Leave ls round i e = refl
-fault-none ns (s.Define a b c) ls round i e = refl
-fault-none ns (s.Use a b c d) ls round i e = refl
-fault-none ns (s.Label a b c) ls round i e = absurd (cc)
-fault-none ns (s.LeadTo a b) ls round i e = absurd (cc)
-fault-none ns (s.BadPack a) ls round i e = refl
-fault-none ns (s.DefineAlias a b c) ls round i e = refl
-fault-none ns (s.MentionAlias a b c) ls round i e = refl
+fault-none ns c.Enter ls round i e = refl
+fault-none ns c.Leave ls round i e = refl
+fault-none ns (c.BadPack p) ls round i e = refl
+fault-none ns (c.Name n (s.Define p k)) ls round i e = refl
+fault-none ns (c.Name n (s.Use p k q)) ls round i e = refl
+fault-none ns (c.Name n (s.Label p b)) ls round i e = absurd (cc)
+fault-none ns (c.Name n (s.LeadTo p)) ls round i e = absurd (cc)
+fault-none ns (c.Name n (s.DefineAlias t p)) ls round i e = refl
+fault-none ns (c.Name n (s.MentionAlias t p)) ls round i e = refl
 
 meaning-none : (ns : List Name) (x : Call) (ls : List Binding) (round : List ℕ)
     → is_of_blocks x ≡ false → block_meaning ls round (mark_of ns x) ≡ []
-meaning-none ns s.Enter ls round e = refl
-meaning-none ns s.Leave ls round e = refl
-meaning-none ns (s.Define a b c) ls round e = refl
-meaning-none ns (s.Use a b c d) ls round e = refl
-meaning-none ns (s.Label a b c) ls round e = absurd (cc)
-meaning-none ns (s.LeadTo a b) ls round e = absurd (cc)
-meaning-none ns (s.BadPack a) ls round e = refl
-meaning-none ns (s.DefineAlias a b c) ls round e = refl
-meaning-none ns (s.MentionAlias a b c) ls round e = refl
+meaning-none ns c.Enter ls round e = refl
+meaning-none ns c.Leave ls round e = refl
+meaning-none ns (c.BadPack p) ls round e = refl
+meaning-none ns (c.Name n (s.Define p k)) ls round e = refl
+meaning-none ns (c.Name n (s.Use p k q)) ls round e = refl
+meaning-none ns (c.Name n (s.Label p b)) ls round e = absurd (cc)
+meaning-none ns (c.Name n (s.LeadTo p)) ls round e = absurd (cc)
+meaning-none ns (c.Name n (s.DefineAlias t p)) ls round e = refl
+meaning-none ns (c.Name n (s.MentionAlias t p)) ls round e = refl
 
 along-none : (ns : List Name) (calls : List Call) (ls : List Binding) (at : Standing)
     → list_any is_of_blocks calls ≡ false

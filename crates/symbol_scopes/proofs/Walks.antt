@@ -7,9 +7,9 @@ use Rattle.symbol_scopes.specs.declared.call.Call.{Call}
 use Rattle.symbol_scopes.specs.declared.call.Call.TheVariants.{Enter}
 use Rattle.symbol_scopes.specs.ScopeMarks.{Name, ScopeMark, Standing, passed, after, along, top, standing, own}
 use Rattle.symbol_scopes.specs.ScopeMarks.{enters, leaves, defines, uses, labels, leads_to, bad_pack, defines_alias, mentions_alias}
-use Rattle.symbol_scopes.specs.Calls.{mark_of, marks_of, IsNamed, AreNamed}
+use Rattle.symbol_scopes.specs.Calls.{mark_of, marks_of, call_at, IsNamed, AreNamed}
 use Rattle.symbol_scopes.specs.Slots.{Descend}
-use Rattle.symbol_scopes.proofs.Lists.{get-map}
+use Rattle.symbol_scopes.proofs.Lists.{all-at, get-map}
 
 -- the standing behind one mark more
 pub after-more : (s : Standing) (ms : List ScopeMark) (m : ScopeMark)
@@ -49,27 +49,18 @@ pub further-along : {A : Type 0} (f : List ℕ → ScopeMark → List A) (ms : L
     → along f top (take (i + 1) ms) ≡ along f top (take i ms) ++ f (standing (take i ms)).round m
 further-along f ms i m x = ap (along f top) x.longer ∙ along-more f top (take i ms) m
 
--- the passed that a loop is at
-abbrev pub call_at : List Call → ℕ → Call
-call_at calls i = get_or calls i Enter
-
 -- the mark of the call that a loop is at
-pub at-step : (ns : List Name) (calls : List Call) (i : ℕ) → i < length calls
-    → Further (marks_of ns calls) i (mark_of ns (call_at calls i))
-at-step ns calls i less =
-    further (marks_of ns calls) i (mark_of ns (call_at calls i))
-    (get-map (mark_of ns) calls i (call_at calls i) (slice_get-get_or calls i Enter less))
+pub at-step : (ns : List Name) (calls : List Call) (i : ℕ) (x : Call) → i < length calls
+    → x ≡ call_at calls i → Further (marks_of ns calls) i (mark_of ns x)
+at-step ns calls i x less is =
+    further (marks_of ns calls) i (mark_of ns x)
+    (get-map (mark_of ns) calls i x (slice_get-get_or calls i Enter less ∙ ap Some (sym is)))
 
 -- the call that a loop is at has its name
-pub named-at : (n : ℕ) (calls : List Call) (i : ℕ) → AreNamed n calls → i < length calls
-    → IsNamed n (call_at calls i)
-named-at n calls i named less = at n calls i (call_at calls i) named (slice_get-get_or calls i Enter less)
-  where
-    at : (n : ℕ) (calls : List Call) (i : ℕ) (x : Call) → AreNamed n calls
-        → slice_get calls i ≡ Some x → IsNamed n x
-    at n [] i x named e = absurd (cc)
-    at n (y ∷ calls) zero x named e = let h : y ≡ x = cc in subst (IsNamed n) h named.0
-    at n (y ∷ calls) (suc i) x named e = at n calls i x named.1 e
+pub named-at : (n : ℕ) (calls : List Call) (i : ℕ) (x : Call) → AreNamed n calls → i < length calls
+    → x ≡ call_at calls i → IsNamed n x
+named-at n calls i x named less is =
+    all-at (IsNamed n) calls i x named (slice_get-get_or calls i Enter less ∙ ap Some (sym is))
 
 -- no more regions are entered than there are marks
 pub entered-most : (s : Standing) (ms : List ScopeMark) → (after s ms).entered ≤ s.entered + length ms

@@ -5,6 +5,7 @@ pub mod Uses
 pub mod NameRefusal
 pub mod Regions
 pub mod Calls
+pub mod Steps
 pub mod Listed
 pub mod Slots
 pub mod Aliases

@@ -7,7 +7,8 @@ ghost use Rattle.symbol_scopes.specs.Aliases.{KnowsAliases};
 ghost use Rattle.symbol_scopes.specs.ScopeMarks.{ScopeMark};
 ghost use Rattle.symbol_scopes.specs.Calls.{mark_of, marks_of, numbered_name, AreNamed, IsNamed};
 
-use crate::call::Call;
+use crate::call::{Call, Said};
+use crate::calls::Calls;
 use crate::names::Names;
 use first_fault::{Fault, earlier};
 use std::alloc::{AllocError, Global};
@@ -53,13 +54,16 @@ impl AliasSet {
     {
         let _ = names.len();
         match next {
-            Call::DefineAlias { is_type, name, .. } => {
-                if is_type {
-                    self.types[name as usize] = true;
-                } else {
-                    self.attributes[name as usize] = true;
+            Call::Name { name, said } => match said {
+                Said::DefineAlias { is_type, .. } => {
+                    if is_type {
+                        self.types[name as usize] = true;
+                    } else {
+                        self.attributes[name as usize] = true;
+                    }
                 }
-            }
+                _ => {}
+            },
             _ => {}
         }
     }
@@ -74,28 +78,23 @@ fn alias_fault(known: &AliasSet, names: &Names, next: Call) -> Option<Fault>
 {
     match next {
         Call::BadPack { place } => Some(Fault { place, code: 9 }),
-        Call::DefineAlias {
-            is_type,
-            name,
-            place,
-        } => {
-            if known.has(names, is_type, name) {
-                Some(Fault { place, code: 6 })
-            } else {
-                None
+        Call::Name { name, said } => match said {
+            Said::DefineAlias { is_type, place } => {
+                if known.has(names, is_type, name) {
+                    Some(Fault { place, code: 6 })
+                } else {
+                    None
+                }
             }
-        }
-        Call::MentionAlias {
-            is_type,
-            name,
-            place,
-        } => {
-            if known.has(names, is_type, name) {
-                None
-            } else {
-                Some(Fault { place, code: 5 })
+            Said::MentionAlias { is_type, place } => {
+                if known.has(names, is_type, name) {
+                    None
+                } else {
+                    Some(Fault { place, code: 5 })
+                }
             }
-        }
+            _ => None,
+        },
         _ => None,
     }
 }
@@ -104,7 +103,7 @@ fn alias_fault(known: &AliasSet, names: &Names, next: Call) -> Option<Fault>
 pub fn judge_aliases(
     alloc: Global,
     names: &Names,
-    calls: &[Call],
+    calls: &Calls,
 ) -> Result<Option<Fault>, AllocError>
     requires named { AreNamed (length names.now) calls.now }
     ensures { IfOk result (λ first. IsFirst (IsFaultBy spec.alias_fault
@@ -112,9 +111,10 @@ pub fn judge_aliases(
 {
     let mut known = AliasSet::new(alloc, names)?;
     let mut first = None;
-    for next in calls {
-        first = earlier(first, alias_fault(&known, names, *next));
-        known.take(names, *next);
+    for at in 0..calls.len() {
+        let next = calls.get(at);
+        first = earlier(first, alias_fault(&known, names, next));
+        known.take(names, next);
     }
     Ok(first)
 }

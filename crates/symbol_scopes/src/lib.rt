@@ -12,6 +12,8 @@
 mod aliases;
 mod blocks;
 mod call;
+mod calls;
+mod judged;
 mod laws;
 mod listed;
 mod names;

@@ -1,14 +1,17 @@
 //! The definitions of a text, with those of each region chained.
 
-ghost use Rattle.std.specs.Prelude.{◌≡◌, ◌<◌, ◌+◌, ◌^◌, ◌++◌, ◌∷◌, [], IfOk, OnOk, List, ℕ, length};
+ghost use Rattle.std.specs.Prelude.{◌≡◌, ◌<◌, ◌+◌, ◌^◌, ◌++◌, ◌∷◌, [], IfOk, IfSome, OnOk, List, ℕ, length};
 ghost use Rattle.symbol_scopes.specs.ScopeMarks.{Binding, bindings, bindings_of, standing, passed};
 ghost use Rattle.symbol_scopes.specs.Calls.{mark_of, marks_of, IsNamed, AreNamed, numbered_name};
 ghost use Rattle.symbol_scopes.specs.Listed.{IsListed, bindings_in};
+ghost use Rattle.symbol_scopes.specs.Slots.{found_in};
 
 use crate::call::{Call, NameKind};
+use crate::calls::Calls;
 use crate::names::Names;
 use crate::round::Round;
 use crate::rows::{BindingRow, Listed};
+use crate::slots::FoundBinding;
 use std::alloc::{AllocError, Global};
 
 impl Listed {
@@ -21,6 +24,22 @@ impl Listed {
         Ok(Listed {
             rows: Vec::new(alloc),
             heads,
+        })
+    }
+
+    /// The definition with a number.
+    pub fn found(&self, at: u32) -> Option<FoundBinding>
+        ensures is { (ns : List (List ℕ)) → result ≡ found_in (bindings_in ns self.now) at }
+        ensures within { IfSome result (λ f. f.at < length self.now.rows.items) }
+    {
+        if at as usize >= self.rows.len() {
+            return None;
+        }
+        let row = self.rows[at as usize];
+        Some(FoundBinding {
+            at,
+            region: row.region,
+            number: row.number,
         })
     }
 
@@ -73,19 +92,18 @@ impl Listed {
             ++ bindings_of kind round.old.round (mark_of names.now next))
             (round.new.entered + 1) self.new) }
     {
-        match (next, kind) {
-            (Call::Enter, _) => {
+        match next {
+            Call::Enter => {
                 round.enter()?;
                 self.enter()?;
             }
-            (Call::Leave, _) => round.leave(),
-            (Call::Define { name, count, .. }, NameKind::Values) => {
-                self.add(round.region(), name, count)?;
+            Call::Leave => round.leave(),
+            Call::BadPack { .. } => {}
+            Call::Name { name, said } => {
+                if let Some(number) = said.defined(kind) {
+                    self.add(round.region(), name, number)?;
+                }
             }
-            (Call::Label { name, block, .. }, NameKind::Labels) => {
-                self.add(round.region(), name, block)?;
-            }
-            _ => {}
         }
         Ok(())
     }
@@ -95,18 +113,17 @@ impl Listed {
 pub fn list_bindings(
     alloc: Global,
     names: &Names,
-    calls: &[Call],
+    calls: &Calls,
     kind: NameKind,
 ) -> Result<Listed, AllocError>
     requires named { AreNamed (length names.now) calls.now }
-    requires room { length calls.now < 2 ^ 63 }
     ensures { IfOk result (λ l. IsListed names.now (bindings kind (marks_of names.now calls.now))
         ((standing (marks_of names.now calls.now)).entered + 1) l) }
 {
     let mut round = Round::new(alloc)?;
     let mut listed = Listed::new(alloc)?;
-    for next in calls {
-        listed.take(names, &mut round, *next, kind)?;
+    for at in 0..calls.len() {
+        listed.take(names, &mut round, calls.get(at), kind)?;
     }
     Ok(listed)
 }

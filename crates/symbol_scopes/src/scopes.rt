@@ -3,6 +3,7 @@
 ghost use Rattle.std.specs.Prelude.{◌≡◌, ◌++◌, ◌∷◌, [], IfOk, OnOk, OnErr, IfErr, length, map, slice_get, None, Some};
 ghost use Rattle.first_fault.specs.Firsts.{IsFirst};
 ghost use Rattle.symbol_scopes.specs.Faults.{IsNameFault};
+ghost use Rattle.symbol_scopes.specs.Calls.{said_mark};
 ghost use Rattle.symbol_scopes.specs.ScopeMarks as mark;
 ghost use Rattle.symbol_scopes.specs.ScopeMarks.{bindings, uses_in, successors_in};
 ghost use Rattle.symbol_scopes.specs.Meanings.{value_meanings, block_meanings};
@@ -12,7 +13,8 @@ ghost use Rattle.first_fault.specs.declared.fault.Fault.{Fault};
 
 use crate::aliases::judge_aliases;
 use crate::blocks::judge_blocks;
-use crate::call::Call;
+use crate::call::{Call, NameKind, Said};
+use crate::calls::Calls;
 use crate::names::Names;
 use crate::values::judge_values;
 use first_fault::earlier;
@@ -33,7 +35,7 @@ pub enum NameStop {
 #[derive(Drop)]
 pub struct Scopes {
     names: Names,
-    calls: Vec<Call>,
+    calls: Calls,
     definitions: usize,
     uses: usize,
     successors: usize,
@@ -48,12 +50,12 @@ impl Model for Scopes {
 
     ghost Value = { List ScopeMark };
 
-    ghost view = { λ s. marks_of s.names s.calls.items };
+    ghost view = { λ s. marks_of s.names s.calls };
 
-    ghost invariant = { λ s. AreNamed (length s.names) s.calls.items
-        × (s.definitions ≡ length (bindings Values (marks_of s.names s.calls.items)))
-        × (s.uses ≡ length (uses_in (marks_of s.names s.calls.items)))
-        × (s.successors ≡ length (successors_in (marks_of s.names s.calls.items))) };
+    ghost invariant = { λ s. AreNamed (length s.names) s.calls
+        × (s.definitions ≡ length (bindings Values (marks_of s.names s.calls)))
+        × (s.uses ≡ length (uses_in (marks_of s.names s.calls)))
+        × (s.successors ≡ length (successors_in (marks_of s.names s.calls))) };
 }
 
 /// What uses and successors mean.
@@ -102,7 +104,7 @@ impl Scopes {
     {
         Scopes {
             names: Names::new(alloc),
-            calls: Vec::new(alloc),
+            calls: Calls::new(alloc),
             definitions: 0,
             uses: 0,
             successors: 0,
@@ -136,10 +138,8 @@ impl Scopes {
         ensures number { IfOk result (λ d. d ≡ length (bindings kind.Values self.old)) }
         ensures err { OnErr result (self.new ≡ self.old) }
     {
-        let name = self.names.number(name)?;
-        self.calls.push(Call::Define { name, place, count })?;
         let number = self.definitions;
-        self.definitions += 1;
+        self.note(name, Said::Define { place, count })?;
         Ok(number)
     }
 
@@ -160,15 +160,15 @@ impl Scopes {
         ensures number { IfOk result (λ d. d ≡ length (uses_in self.old)) }
         ensures err { OnErr result (self.new ≡ self.old) }
     {
-        let name = self.names.number(name)?;
-        self.calls.push(Call::Use {
-            name,
-            place,
-            number,
-            number_place,
-        })?;
         let at = self.uses;
-        self.uses += 1;
+        self.note(
+            name,
+            Said::Use {
+                place,
+                number,
+                number_place,
+            },
+        )?;
         Ok(at)
     }
 
@@ -181,10 +181,8 @@ impl Scopes {
         if block > u32::MAX as usize {
             return Err(AllocError);
         }
-        let name = self.names.number(name)?;
         let block = block as u32;
-        self.calls.push(Call::Label { name, place, block })?;
-        Ok(())
+        self.note(name, Said::Label { place, block })
     }
 
     /// A successor. It gives its number among successors, counted from 0.
@@ -194,10 +192,8 @@ impl Scopes {
         ensures number { IfOk result (λ d. d ≡ length (successors_in self.old)) }
         ensures err { OnErr result (self.new ≡ self.old) }
     {
-        let name = self.names.number(name)?;
-        self.calls.push(Call::LeadTo { name, place })?;
         let at = self.successors;
-        self.successors += 1;
+        self.note(name, Said::LeadTo { place })?;
         Ok(at)
     }
 
@@ -207,13 +203,7 @@ impl Scopes {
             (record { is_type = is_type; name = name.now; place = place }) ∷ []) }
         ensures err { OnErr result (self.new ≡ self.old) }
     {
-        let name = self.names.number(name)?;
-        self.calls.push(Call::DefineAlias {
-            is_type,
-            name,
-            place,
-        })?;
-        Ok(())
+        self.note(name, Said::DefineAlias { is_type, place })
     }
 
     /// An alias is mentioned.
@@ -227,13 +217,7 @@ impl Scopes {
             (record { is_type = is_type; name = name.now; place = place }) ∷ []) }
         ensures err { OnErr result (self.new ≡ self.old) }
     {
-        let name = self.names.number(name)?;
-        self.calls.push(Call::MentionAlias {
-            is_type,
-            name,
-            place,
-        })?;
-        Ok(())
+        self.note(name, Said::MentionAlias { is_type, place })
     }
 
     /// A pack has a wrong size.
@@ -245,6 +229,19 @@ impl Scopes {
         Ok(())
     }
 
+    /// Notes what is said of a name.
+    fn note(&mut self, name: &[u8], said: Said) -> Result<(), AllocError>
+        ensures ok { OnOk result (self.new ≡ self.old ++ said_mark name.now said ∷ []) }
+        ensures err { OnErr result (self.new ≡ self.old) }
+    {
+        let name = self.names.number(name)?;
+        self.calls.push(Call::Name { name, said })?;
+        self.definitions += said.definitions(NameKind::Values);
+        self.uses += said.uses();
+        self.successors += said.successors();
+        Ok(())
+    }
+
     /// What uses and successors mean, or the first fault: the least place, and there the lowest
     /// code.
     pub fn finish(self) -> Result<Uses, NameStop>
@@ -253,13 +250,13 @@ impl Scopes {
         ensures blocks { IfOk result (λ u. map Some u.blocks ≡ block_meanings self) }
         ensures refused { IfErr result (λ stop. RefusesNames self stop) }
     {
-        let Ok(values) = judge_values(self.alloc, &self.names, self.calls.as_slice()) else {
+        let Ok(values) = judge_values(self.alloc, &self.names, &self.calls) else {
             return Err(NameStop::OutOfMemory);
         };
-        let Ok(blocks) = judge_blocks(self.alloc, &self.names, self.calls.as_slice()) else {
+        let Ok(blocks) = judge_blocks(self.alloc, &self.names, &self.calls) else {
             return Err(NameStop::OutOfMemory);
         };
-        let Ok(others) = judge_aliases(self.alloc, &self.names, self.calls.as_slice()) else {
+        let Ok(others) = judge_aliases(self.alloc, &self.names, &self.calls) else {
             return Err(NameStop::OutOfMemory);
         };
         match earlier(earlier(values.first, blocks.first), others) {

@@ -3,12 +3,13 @@
 ghost use Rattle.std.specs.Prelude.{◌≡◌, ◌<◌, ◌+◌, ◌∷◌, [], IfOk, OnOk, List, ℕ, length, Some, slice_get};
 ghost use Rattle.symbol_scopes.specs.ScopeMarks.{Binding, own, behind_own};
 ghost use Rattle.symbol_scopes.specs.Listed.{IsListed, bindings_in};
-ghost use Rattle.symbol_scopes.specs.Slots.{AreSlots, outer_of, IsOuterKept};
+ghost use Rattle.symbol_scopes.specs.Slots.{AreSlots, outer_of};
 
 use crate::names::Names;
 use crate::round::Round;
 use crate::rows::Listed;
 use std::alloc::{AllocError, Global};
+use std::mem::size_of;
 
 /// A definition that a name means: its number, its region, and the size of its pack or the number of
 /// its block.
@@ -19,13 +20,15 @@ pub struct FoundBinding {
     pub number: u32,
 }
 
-/// What a name means, and the least number of a definition of it in the open regions; the count of
-/// definitions where there is none.
+/// The number of the definition that a name means, and the least number of a definition of it in the
+/// open regions. Both are the count of definitions where there is none.
 #[derive(Clone, Copy)]
 pub struct NameSlot {
-    pub found: Option<FoundBinding>,
+    pub found: u32,
     pub least: u32,
 }
+
+const _: () = prove!(size_of::<NameSlot>() == 8);
 
 /// A slot for each name, and for each definition in an open region that of its name outside.
 #[derive(Drop)]
@@ -35,11 +38,12 @@ pub struct NameSlots {
 }
 
 /// What a name means outside a region, by its slot in it.
-fn outer_slot(slot: NameSlot, saved: &[NameSlot], region: u32) -> NameSlot
-    requires { IsOuterKept slot (length saved.now) region }
-    ensures { result ≡ outer_of slot saved.now region }
+fn outer_slot(slot: NameSlot, saved: &[NameSlot], listed: &Listed, region: u32) -> NameSlot
+    requires { length saved.now ≡ length listed.now.rows.items }
+    ensures { (ns : List (List ℕ)) →
+        result ≡ outer_of (bindings_in ns listed.now) slot saved.now region }
 {
-    match slot.found {
+    match listed.found(slot.found) {
         Some(f) => {
             if f.region == region {
                 saved[f.at as usize]
@@ -56,9 +60,10 @@ impl NameSlots {
     pub fn new(alloc: Global, names: &Names, listed: &Listed) -> Result<NameSlots, AllocError>
         ensures { IfOk result (λ t. AreSlots names.now (bindings_in names.now listed.now) [] t) }
     {
+        let none = listed.rows.len() as u32;
         let slot = NameSlot {
-            found: None,
-            least: listed.rows.len() as u32,
+            found: none,
+            least: none,
         };
         Ok(NameSlots {
             slots: vec![in alloc; slot; names.len()]?,
@@ -81,14 +86,10 @@ impl NameSlots {
         while let Some(d) = at {
             let row = listed.rows[d as usize];
             let slot = self.slots[row.name as usize];
-            let out = outer_slot(slot, self.saved.as_slice(), region);
+            let out = outer_slot(slot, self.saved.as_slice(), listed, region);
             self.saved[d as usize] = out;
             self.slots[row.name as usize] = NameSlot {
-                found: Some(FoundBinding {
-                    at: d,
-                    region,
-                    number: row.number,
-                }),
+                found: d,
                 least: d.min(out.least),
             };
             at = row.next;

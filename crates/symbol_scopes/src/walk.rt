@@ -5,7 +5,7 @@ ghost use Rattle.symbol_scopes.specs.ScopeMarks.{top, passed, own};
 ghost use Rattle.symbol_scopes.specs.Listed.{IsListed, bindings_in};
 ghost use Rattle.symbol_scopes.specs.Slots.{AreSlots, slot_of, in_own};
 ghost use Rattle.symbol_scopes.specs.Calls.{mark_of, numbered_name};
-ghost use Rattle.symbol_scopes.specs.Meanings.{first_in};
+ghost use Rattle.symbol_scopes.specs.Meanings.{first_in, meant};
 
 use crate::call::Call;
 use crate::names::Names;
@@ -65,7 +65,7 @@ impl Walk {
         Ok(())
     }
 
-    /// What a name means here.
+    /// The slot of a name here.
     pub fn slot(&self, names: &Names, listed: &Listed, name: u32) -> NameSlot
         requires slots { AreSlots names.now (bindings_in names.now listed.now)
             self.now.round.round self.now.slots }
@@ -76,6 +76,17 @@ impl Walk {
         self.slots.slots[name as usize]
     }
 
+    /// The definition that a name means here.
+    pub fn found(&self, names: &Names, listed: &Listed, name: u32) -> Option<FoundBinding>
+        requires slots { AreSlots names.now (bindings_in names.now listed.now)
+            self.now.round.round self.now.slots }
+        requires named { name < length names.now }
+        ensures { result ≡ meant (bindings_in names.now listed.now) self.now.round.round
+            (numbered_name names.now name) }
+    {
+        listed.found(self.slot(names, listed, name).found)
+    }
+
     /// The first definition of a name in the innermost region.
     pub fn own_found(&self, names: &Names, listed: &Listed, name: u32) -> Option<FoundBinding>
         requires slots { AreSlots names.now (bindings_in names.now listed.now)
@@ -84,7 +95,7 @@ impl Walk {
         ensures { result ≡ first_in (bindings_in names.now listed.now) (own self.now.round.round)
             (numbered_name names.now name) }
     {
-        in_region(self.slot(names, listed, name).found, self.round.region())
+        in_region(self.found(names, listed, name), self.round.region())
     }
 }
 

@@ -5,9 +5,9 @@ use Rattle.symbol_scopes.specs.Aliases.{KnowsAliases}
 use Rattle.symbol_scopes.specs.Calls.{marks_of}
 use Rattle.symbol_scopes.proofs.aliases.judge_aliases.Given as goal
 
-abbrev pub invariant-loop-next : goal.invariant-loop-next
-invariant-loop-next l = record {
-  known : KnowsAliases l.names (take l.next-index (marks_of l.names l.calls)) l.known;
-  first : IsFirst (IsFaultBy alias_fault (take l.next-index (marks_of l.names l.calls)))
+abbrev pub invariant-loop-at : goal.invariant-loop-at
+invariant-loop-at l = record {
+  known : KnowsAliases l.names (take l.at (marks_of l.names l.calls)) l.known;
+  first : IsFirst (IsFaultBy alias_fault (take l.at (marks_of l.names l.calls)))
       l.first;
 }

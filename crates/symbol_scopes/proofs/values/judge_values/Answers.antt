@@ -1,76 +1,58 @@
-use Rattle.std.proofs.Common.{rules, List, subst, refl, arith}
+use Rattle.std.proofs.Common.{◌<◌, length, arith}
 use Rattle.symbol_scopes.specs.declared.call.NameKind.TheVariants.{Values}
-use Rattle.first_fault.specs.Firsts.{IsFirst, IsFaultBy}
-use Rattle.symbol_scopes.specs.Faults.{values_rule, value_fault}
-use Rattle.symbol_scopes.specs.Listed.{bindings_in}
+use Rattle.symbol_scopes.specs.Faults.{value_fault}
 use Rattle.symbol_scopes.specs.Meanings.{value_meaning}
-use Rattle.symbol_scopes.specs.ScopeMarks.{ScopeMark}
 use Rattle.symbol_scopes.specs.Calls.{mark_of, marks_of}
-use Rattle.first_fault.proofs.Rules.{first-none}
-use Rattle.symbol_scopes.proofs.Judging.{most, regions-there, going-start, going-step, first-step, meanings-step}
-use Rattle.symbol_scopes.proofs.Walks.{at-step, call_at, marks-whole}
+use Rattle.symbol_scopes.proofs.Judging.{most, regions-there, judges-start, judges-step, judges-first}
+use Rattle.symbol_scopes.proofs.Walks.{at-step, marks-whole}
 use Rattle.symbol_scopes.proofs.values.judge_values.Goals as goal
 
-pub take-requires-clause-most : goal.take-requires-clause-most
-take-requires-clause-most c =
-    most c.args.names.now (marks_of c.args.names.now c.args.calls.now) Values c.in_ok-listed.listed
-    c.in_ok-listed.ensures c.loop-next.walk c.loop-next.before c.loop-next.next-index
-    c.loop-next.invariant.going
+pub loop-at-init : goal.loop-at-init
+loop-at-init c =
+    judges-start c.args.names.now (marks_of c.args.names.now c.args.calls.now) Values
+    c.in_ok-listed.listed c.in_ok-listed.ensures value_fault value_meaning c.in_ok-walk.walk _ _
+    c.in_ok-walk.ensures.round c.in_ok-walk.ensures.slots c.new-values.ensures.first
+    c.new-values.ensures.meanings
 
-pub take-requires-in-loop-next-clause-regions : goal.take-requires-in-loop-next-clause-regions
-take-requires-in-loop-next-clause-regions c =
+pub value_fault-fault-requires-clause-most : goal.value_fault-fault-requires-clause-most
+value_fault-fault-requires-clause-most c =
+    most c.args.names.now (marks_of c.args.names.now c.args.calls.now) Values
+    c.in_ok-listed.listed c.in_ok-listed.ensures c.loop-at.walk c.loop-at.before c.loop-at.at
+    c.loop-at.invariant.going
+
+pub take-requires-in-loop-at-clause-regions : goal.take-requires-in-loop-at-clause-regions
+take-requires-in-loop-at-clause-regions c =
+    let count = c.len-at-end.ensures.count in
+    let test = c.loop-at-test.true in
     regions-there c.args.names.now (marks_of c.args.names.now c.args.calls.now) Values
-    c.in_ok-listed.listed c.in_ok-listed.ensures c.loop-next.walk c.loop-next.before
-    c.loop-next.next-index _ c.loop-next.invariant.going
-    (at-step c.args.names.now c.args.calls.now c.loop-next.next-index c.loop-next-test.true)
+    c.in_ok-listed.listed c.in_ok-listed.ensures c.loop-at.walk c.loop-at.before c.loop-at.at _
+    c.loop-at.invariant.going
+    (at-step c.args.names.now c.args.calls.now c.loop-at.at c.get-next.result (omega arith)
+    c.get-next.ensures)
 
-pub loop-next-init : goal.loop-next-init
-loop-next-init c =
+pub loop-at-preserved : goal.loop-at-preserved
+loop-at-preserved c =
     let ns = c.args.names.now in
     let ms = marks_of ns c.args.calls.now in
-    record {
-      going = going-start ns ms Values c.in_ok-listed.listed c.in_ok-listed.ensures c.in_ok-walk.walk
-          c.in_ok-walk.ensures.round c.in_ok-walk.ensures.slots;
-      few = omega arith;
-      first = first-none (values_rule ms);
-      meanings = λ e. search rules;
-    }
-
-pub loop-next-preserved : goal.loop-next-preserved
-loop-next-preserved c =
-    let ns = c.args.names.now in
-    let calls = c.args.calls.now in
-    let i = c.loop-next.next-index in
-    let ms = marks_of ns calls in
-    let m = mark_of ns (call_at calls i) in
-    let here = at-step ns calls i c.loop-next-test.true in
-    let g = c.loop-next.invariant.going in
-    let few = c.loop-next.invariant.few in
-    let one = c.defined_values-before.ensures.most in
-    let l = c.in_ok-listed.listed in
-    let h = c.in_ok-listed.ensures in
-    let w = c.loop-next.walk in
-    let before = c.loop-next.before in
-    let fault = value_fault (bindings_in ns l) w.round.round before m in
-    record {
-      going = going-step ns ms Values l h w c.take-in-loop-next.new.self before i
-          c.defined_values-before.result m g here c.in_ok-take-2.ensures.round
-          c.in_ok-take-2.ensures.slots
-          (c.defined_values-before.ensures.count ns w.round.round);
-      few = omega arith;
-      first = first-step ns ms Values l h value_fault value_meaning w before i m g here
-          c.loop-next.values.first fault c.take.new.self.first refl c.in_ok-take.ensures.first
-          c.loop-next.invariant.first;
-      meanings = meanings-step ns ms Values l h value_fault value_meaning w before i m g here
-          c.loop-next.values.first fault c.take.new.self.first _ _ refl
-          c.in_ok-take.ensures.first c.loop-next.invariant.meanings
-          c.in_ok-take.ensures.meanings;
-    }
+    let count = c.len-at-end.ensures.count in
+    let test = c.loop-at-test.true in
+    let here = at-step ns c.args.calls.now c.loop-at.at c.get-next.result (omega arith)
+    c.get-next.ensures in
+    judges-step ns ms Values c.in_ok-listed.listed c.in_ok-listed.ensures value_fault value_meaning
+    c.loop-at.walk c.take-in-loop-at.new.self c.loop-at.before c.loop-at.at
+    c.definitions-before.result (mark_of ns c.get-next.result) c.loop-at.values.first
+    c.value_fault-fault.result c.take.new.self.first c.loop-at.values.meanings.items _
+    c.take.new.self.meanings.items c.loop-at.invariant here c.in_ok-take-2.ensures.round
+    c.in_ok-take-2.ensures.slots (c.definitions-before.ensures.count ns c.loop-at.walk.round.round)
+    c.definitions-before.ensures.most c.value_fault-fault.ensures
+    (c.value_meaning.ensures c.loop-at.before) c.in_ok-take.ensures.first
+    c.in_ok-take.ensures.meanings
 
 pub returns-clause-first : goal.returns-clause-first
 returns-clause-first c =
-    let ns = c.args.names.now in
-    let ms = marks_of ns c.args.calls.now in
-    subst (λ (l : List ScopeMark). IsFirst (IsFaultBy (values_rule ms) l) c.loop-next.values.first)
-    (marks-whole ns c.args.calls.now c.loop-next.next-index c.loop-next-test.false)
-    c.loop-next.invariant.first
+    let count = c.len-at-end.ensures.count in
+    let test = c.loop-at-test.false in
+    judges-first c.args.names.now (marks_of c.args.names.now c.args.calls.now) Values
+    c.in_ok-listed.listed value_fault value_meaning c.loop-at.walk c.loop-at.before c.loop-at.at _ _
+    c.loop-at.invariant
+    (marks-whole c.args.names.now c.args.calls.now c.loop-at.at (omega arith))

@@ -1,4 +1,4 @@
-use Rattle.std.proofs.Common.{◌∙◌, sym, ap, length, replicate, ◌≡◌, rules, None, ℕ}
+use Rattle.std.proofs.Common.{◌∙◌, sym, ap, length, replicate, ◌≡◌, rules, ℕ}
 use Rattle.std.proofs.lemmas.List.{length-map, length-replicate}
 use Rattle.symbol_scopes.specs.declared.slots.NameSlot.{NameSlot}
 use Rattle.symbol_scopes.specs.Listed.{bindings_in, binding_of}
@@ -11,10 +11,10 @@ returns c =
     let saved = c.in_ok-vec-2.ensures.items_if_clones_equal (search rules) in
     let ds = bindings_in c.args.names.now c.args.listed.now in
     let rows = c.args.listed.now.rows in
-    let v : NameSlot = record { found = None; least = c.len.result } in
+    let v : NameSlot = record { found = c.len-none.result; least = c.len-none.result } in
     let many : rows.len ≡ length ds =
     rows.ok.0 ∙ sym (length-map rows.items (binding_of c.args.names.now)) in
-    let count : c.len.result ≡ length ds = c.len.ensures ∙ many in
-    no-region c.args.names.now ds _ v (ap (λ (n : ℕ). record { found = None; least = n }) count)
-    (slots ∙ ap (λ n. replicate n v) c.len-2.ensures.count)
-    (ap length saved ∙ length-replicate c.len-3.result v ∙ c.len-3.ensures ∙ many)
+    let count : c.len-none.result ≡ length ds = c.len-none.ensures ∙ many in
+    no-region c.args.names.now ds _ v (ap (λ (n : ℕ). record { found = n; least = n }) count)
+    (slots ∙ ap (λ n. replicate n v) c.len.ensures.count)
+    (ap length saved ∙ length-replicate c.len-2.result v ∙ c.len-2.ensures ∙ many)

@@ -11,6 +11,6 @@ returns c =
     let ds = bindings_in c.args.names.now c.args.listed.now in
     let round = c.args.self.now.round.round in
     let x = numbered_name c.args.names.now c.args.name in
-    c.in_region.ensures ∙ ap (λ l. in_own l.found c.region.result) c.slot.ensures
+    c.in_region.ensures ∙ ap (λ o. in_own o c.region.result) c.found.ensures
     ∙ ap (in_own (meant ds round x)) c.region.ensures.own
     ∙ own-round ds _ round x c.region.ensures.some c.region.ensures.descend
