@@ -24,7 +24,6 @@ use Rattle.symbol_scopes.specs.ScopeMarks.{enters, leaves, defines, uses, labels
 use Rattle.symbol_scopes.specs.Meanings.{first_in, meant, or_else}
 use Rattle.symbol_scopes.specs.Listed.{IsListed, bindings_in}
 use Rattle.symbol_scopes.specs.Slots.{AreSlots, Descend, in_own, slot_of}
-use Rattle.symbol_scopes.proofs.Listing.{listed-same}
 use Rattle.symbol_scopes.proofs.Walks.{Further, further-along}
 use Rattle.symbol_scopes.proofs.Finds.{found-is, meant-below, itself, least-tells}
 
@@ -113,24 +112,8 @@ pub judges-first : {A : Type 0} (ns : List Name) (ms : List ScopeMark) (k : Name
 judges-first ns ms k l F G w before i found told j whole =
     subst (λ (l : List ScopeMark). IsFirst (IsFaultBy (rule_in ms k F) l) found) whole j.first
 
--- and what they mean is said of all
-pub judges-meanings : {A : Type 0} (ns : List Name) (ms : List ScopeMark) (k : NameKind) (l : Listed)
-    (F : FaultBy) (G : MeaningBy A) (w : Walk) (before i : ℕ) (found : Option Fault) (told : List A)
-    → Judges ns ms k l F G w before i found told → take i ms ≡ ms
-    → found ≡ None → map Some told ≡ along (G (bindings k ms)) top ms
-judges-meanings ns ms k l F G w before i found told j whole none =
-    j.meanings none ∙ ap (along (G (bindings k ms)) top) whole
-
 module _ (ns : List Name) (ms : List ScopeMark) (k : NameKind) (l : Listed)
     (h : IsListed ns (bindings k ms) ((standing ms).entered + 1) l) where
-  -- the table is that of its own definitions
-  pub own-listed : IsListed ns (bindings_in ns l) (length l.heads.items) l
-  own-listed = listed-same ns _ _ _ _ l (sym h.bindings) (sym h.count) h
-
-  -- the top level has a head in the table
-  pub some-region : 0 < length l.heads.items
-  some-region = let c = h.count in omega arith
-
   -- a region that a mark enters has a head in the table
   pub regions-there : (w : Walk) (before i : ℕ) (m : ScopeMark) → Going ns ms k l w before i
       → Further ms i m → (passed w.round m).entered < length l.heads.items

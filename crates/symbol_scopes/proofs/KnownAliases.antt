@@ -1,6 +1,5 @@
 -- The aliases that are known, after one mark more.
 use Rattle.std.proofs.Common.{◌≡◌, ℕ, ◌<◌, Bool, true, false, ◌||◌, List, [], ◌∷◌, ◌++◌, length, get_or, set, map, refl, ap, sym, ◌∙◌, subst, bytes_eq, if◌then◌else◌}
-use Rattle.std.specs.List.{list_any}
 use Rattle.std.proofs.lemmas.Option.{slice_get-get_or, get_or_from_slice_get}
 use Rattle.symbol_scopes.specs.declared.aliases.AliasSet.{AliasSet}
 use Rattle.symbol_scopes.specs.declared.call.Call.{Call}

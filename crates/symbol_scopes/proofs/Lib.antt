@@ -1,6 +1,9 @@
 pub mod Lists
 pub mod Finds
 pub mod Turns
+pub mod Beginning
+pub mod Ending
+pub mod Visits
 pub mod Listing
 pub mod Walks
 pub mod Judging
@@ -8,5 +11,8 @@ pub mod KnownAliases
 pub mod Noting
 pub mod Steps
 pub mod Finishing
-pub mod Regions
+pub mod NoteBindings
+pub mod NotesTold
+pub mod RegionMeanings
+pub mod RegionFaults
 pub mod Unlabelled

@@ -1,5 +1,5 @@
 -- What stands at a place of a list, after a push or a write.
-use Rattle.std.proofs.Common.{◌≡◌, ℕ, zero, suc, ◌<◌, ◌⊎◌, inl, inr, Bool, true, false, ◌||◌, List, [], ◌∷◌, ◌++◌, length, set, drop, take, map, replicate, refl, ap, sym, ◌∙◌, subst, arith, slice_get, bytes_eq, if◌then◌else◌, nat_eq}
+use Rattle.std.proofs.Common.{◌≡◌, ℕ, zero, suc, ◌<◌, ◌⊎◌, inl, inr, Bool, true, false, ◌||◌, List, [], ◌∷◌, ◌++◌, length, set, drop, take, map, replicate, refl, ap, sym, subst, arith, slice_get, bytes_eq, if◌then◌else◌, nat_eq}
 use Rattle.std.specs.List.{AllByRecursion, IsDistinct, list_any}
 use Rattle.std.specs.Cmp.Lexicographic.{pointwise}
 use Rattle.std.proofs.lemmas.Slice.Eq.{bytes_eq-Decides}
@@ -86,12 +86,6 @@ module _ {A : Type 0} (P : A → Type 0) where
   pub all-push : (xs : List A) (x : A) → AllByRecursion P xs → P x → AllByRecursion P (xs ++ x ∷ [])
   all-push [] x h k = (k, tt)
   all-push (y ∷ xs) x h k = (h.0, all-push xs x h.1 k)
-
-  -- what holds of each item holds of that at a place
-  pub all-at : (xs : List A) (i : ℕ) (x : A) → AllByRecursion P xs → slice_get xs i ≡ Some x → P x
-  all-at [] i x h e = absurd (cc)
-  all-at (y ∷ xs) zero x h e = let same : y ≡ x = cc in subst P same h.0
-  all-at (y ∷ xs) (suc i) x h e = all-at xs i x h.1 e
 
   -- what follows from what holds of each item holds of each
   pub all-weaker : (Q : A → Type 0) (xs : List A) → ((x : A) → P x → Q x) → AllByRecursion P xs

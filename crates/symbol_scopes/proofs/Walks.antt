@@ -1,15 +1,14 @@
 -- One mark more, and the passed that stands for it.
-use Rattle.std.proofs.Common.{◌≡◌, ℕ, zero, suc, ◌+◌, ◌<◌, ◌≤◌, List, [], ◌∷◌, ◌++◌, length, take, get_or, refl, ap, sym, ◌∙◌, subst, arith, slice_get, append_assoc, append-nil}
+use Rattle.std.proofs.Common.{◌≡◌, ℕ, ◌+◌, ◌<◌, ◌≤◌, List, [], ◌∷◌, ◌++◌, length, take, refl, ap, sym, ◌∙◌, arith, slice_get, append_assoc, append-nil}
 use Rattle.std.proofs.lemmas.List.{take_more, length-map, take_all}
 use Rattle.std.proofs.lemmas.Option.{get_or_from_slice_get, slice_get_within, slice_get-get_or}
 use Rattle.std.specs.declared.option.Option.TheVariants.{Some}
 use Rattle.symbol_scopes.specs.declared.call.Call.{Call}
 use Rattle.symbol_scopes.specs.declared.call.Call.TheVariants.{Enter}
 use Rattle.symbol_scopes.specs.ScopeMarks.{Name, ScopeMark, Standing, passed, after, along, top, standing, own}
-use Rattle.symbol_scopes.specs.ScopeMarks.{enters, leaves, defines, uses, labels, leads_to, bad_pack, defines_alias, mentions_alias}
-use Rattle.symbol_scopes.specs.Calls.{mark_of, marks_of, call_at, IsNamed, AreNamed}
+use Rattle.symbol_scopes.specs.Calls.{mark_of, marks_of, call_at}
 use Rattle.symbol_scopes.specs.Slots.{Descend}
-use Rattle.symbol_scopes.proofs.Lists.{all-at, get-map}
+use Rattle.symbol_scopes.proofs.Lists.{get-map}
 
 -- the standing behind one mark more
 pub after-more : (s : Standing) (ms : List ScopeMark) (m : ScopeMark)
@@ -56,39 +55,10 @@ at-step ns calls i x less is =
     further (marks_of ns calls) i (mark_of ns x)
     (get-map (mark_of ns) calls i x (slice_get-get_or calls i Enter less ∙ ap Some (sym is)))
 
--- the call that a loop is at has its name
-pub named-at : (n : ℕ) (calls : List Call) (i : ℕ) (x : Call) → AreNamed n calls → i < length calls
-    → x ≡ call_at calls i → IsNamed n x
-named-at n calls i x named less is =
-    all-at (IsNamed n) calls i x named (slice_get-get_or calls i Enter less ∙ ap Some (sym is))
-
--- no more regions are entered than there are marks
-pub entered-most : (s : Standing) (ms : List ScopeMark) → (after s ms).entered ≤ s.entered + length ms
-entered-most s [] = omega arith
-entered-most s (m ∷ ms) =
-    let rest = entered-most (passed s m) ms in
-    let one = step-most s m in
-    omega arith
-  where
-    step-most : (s : Standing) (m : ScopeMark) → (passed s m).entered ≤ s.entered + 1
-    step-most s enters = omega arith
-    step-most s leaves = omega arith
-    step-most s (defines d) = omega arith
-    step-most s (uses u) = omega arith
-    step-most s (labels l) = omega arith
-    step-most s (leads_to t) = omega arith
-    step-most s (bad_pack p) = omega arith
-    step-most s (defines_alias a) = omega arith
-    step-most s (mentions_alias a) = omega arith
-
 -- the innermost region has a number below the bound
 pub own-below : (n : ℕ) (round : List ℕ) → 0 < length round → Descend n round → own round < n
 own-below n [] more h = absurd (omega arith)
 own-below n (r ∷ round) more h = h.0
-
--- what is taken up to the end is all
-pub take-whole : {A : Type 0} (xs : List A) (i : ℕ) → i ≤ length xs → length xs ≤ i → take i xs ≡ xs
-take-whole xs i most least = take_all i xs least
 
 -- at the end of a loop, the marks gone over are all of them
 pub marks-whole : (ns : List Name) (calls : List Call) (i : ℕ) → length calls ≤ i

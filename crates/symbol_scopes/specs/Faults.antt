@@ -17,7 +17,21 @@
 --   values_rule ms, blocks_rule ms
 --                        the same, as rules of the marks of the text ms
 --   IsNameFault ms f     f is a fault of the text
-use Rattle.std.specs.Prelude.{ℕ, ◌⊎◌, Bool, not, ◌&&◌, nat_lt, false, ◌==◌, List, length, bytes_eq, if◌then◌else◌, true}
+use Rattle.std.specs.Prelude.{
+  ℕ,
+  ◌⊎◌,
+  Bool,
+  not,
+  ◌&&◌,
+  nat_lt,
+  false,
+  ◌==◌,
+  List,
+  length,
+  bytes_eq,
+  if◌then◌else◌,
+  true,
+}
 use Rattle.std.specs.List.{list_any}
 use Rattle.std.specs.declared.option.Option.{Option}
 use Rattle.std.specs.declared.option.Option.TheVariants.{Some, None}
@@ -25,8 +39,25 @@ use Rattle.first_fault.specs.declared.fault.Fault.{Fault}
 use Rattle.first_fault.specs.Firsts.{Rule, IsFaultBy}
 use Rattle.symbol_scopes.specs.declared.slots.FoundBinding.{FoundBinding}
 use Rattle.symbol_scopes.specs.declared.call.NameKind.TheVariants.{Values, Labels}
-use Rattle.symbol_scopes.specs.ScopeMarks.{Name, ScopeMark, Binding, Use, Successor, own, standing, bindings}
-use Rattle.symbol_scopes.specs.ScopeMarks.{defines, uses, labels, leads_to, bad_pack, defines_alias, mentions_alias}
+use Rattle.symbol_scopes.specs.ScopeMarks.{
+  Name,
+  ScopeMark,
+  Binding,
+  Use,
+  Successor,
+  own,
+  standing,
+  bindings,
+}
+use Rattle.symbol_scopes.specs.ScopeMarks.{
+  defines,
+  uses,
+  labels,
+  leads_to,
+  bad_pack,
+  defines_alias,
+  mentions_alias,
+}
 use Rattle.symbol_scopes.specs.Meanings.{first_in, meant, is_before, is_defined_before}
 
 -- the fault at this place, by the rule of this number

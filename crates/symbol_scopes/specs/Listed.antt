@@ -6,7 +6,21 @@
 --   IsListed ns ds n table  the table has these definitions, of n regions
 --
 -- Inside: no public clause rests on this.
-use Rattle.std.specs.Prelude.{◌≡◌, ℕ, ◌<◌, suc, zero, Bool, false, ◌==◌, List, map, length, slice_get, if◌then◌else◌}
+use Rattle.std.specs.Prelude.{
+  ◌≡◌,
+  ℕ,
+  ◌<◌,
+  suc,
+  zero,
+  Bool,
+  false,
+  ◌==◌,
+  List,
+  map,
+  length,
+  slice_get,
+  if◌then◌else◌,
+}
 use Rattle.std.specs.declared.option.Option.{Option}
 use Rattle.std.specs.declared.option.Option.TheVariants.{Some, None}
 use Rattle.symbol_scopes.specs.declared.rows.BindingRow.{BindingRow}
@@ -36,10 +50,12 @@ last_own ds r (suc k) = if is_in_region r (slice_get ds k) then Some k else last
 -- the table of these definitions, of so many regions
 pub record IsListed (ns : List Name) (ds : List Binding) (regions : ℕ) (l : Listed) : Type 0 where
   pub bindings : bindings_in ns l ≡ ds
-  pub named : (d : ℕ) (row : BindingRow) → slice_get l.rows.items d ≡ Some row → row.name < length ns
+  pub named : (d : ℕ) (row : BindingRow) → slice_get l.rows.items d ≡ Some row
+      → row.name < length ns
   pub next : (d : ℕ) (row : BindingRow) → slice_get l.rows.items d ≡ Some row
       → row.next ≡ last_own ds row.region d
   pub heads : (r : ℕ) → r < regions
       → slice_get l.heads.items r ≡ Some (last_own ds r (length ds))
   pub count : length l.heads.items ≡ regions
-  pub known : (d : ℕ) (row : BindingRow) → slice_get l.rows.items d ≡ Some row → row.region < regions
+  pub known : (d : ℕ) (row : BindingRow) → slice_get l.rows.items d ≡ Some row
+      → row.region < regions

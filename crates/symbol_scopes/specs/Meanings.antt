@@ -1,9 +1,9 @@
 -- What names mean, by the definitions of the whole text and the regions that are open where a name
 -- is used.
 --
--- A use of a value name means the first definition of the name in the innermost region round it that
--- defines it, wherever in that region it stands: before the use or behind it. A successor means the
--- first label of its name in its own region alone.
+-- A use of a value name means the first definition of the name in the innermost region round it
+-- that defines it, wherever in that region it stands: before the use or behind it. A successor
+-- means the first label of its name in its own region alone.
 --
 --   FoundBinding           a definition that was found: its number, its region, and its own number
 --   first_in ds r name     the first definition of the name in the region r
@@ -11,7 +11,21 @@
 --   value_meanings ms      what each use means, in the order of the text: a definition's number and
 --                          the number in its pack
 --   block_meanings ms      what each successor means: the number of a block in its own region
-use Rattle.std.specs.Prelude.{ℕ, Bool, ◌&&◌, ◌||◌, ◌==◌, nat_lt, false, List, [], ◌∷◌, bytes_eq, if◌then◌else◌, suc}
+use Rattle.std.specs.Prelude.{
+  ℕ,
+  Bool,
+  ◌&&◌,
+  ◌||◌,
+  ◌==◌,
+  nat_lt,
+  false,
+  List,
+  [],
+  ◌∷◌,
+  bytes_eq,
+  if◌then◌else◌,
+  suc,
+}
 use Rattle.std.specs.declared.option.Option.{Option}
 use Rattle.std.specs.declared.option.Option.TheVariants.{Some, None}
 use Rattle.symbol_scopes.specs.declared.slots.FoundBinding.{FoundBinding}

@@ -11,5 +11,6 @@ use Rattle.symbol_scopes.specs.Faults.{IsNameFault}
 
 -- the first fault, or want of memory
 abbrev pub RefusesNames : List ScopeMark → NameStop → Type 0
-RefusesNames ms (Refused place code) = IsFirst (IsNameFault ms) (Some (record { place = place; code = code }))
+RefusesNames ms (Refused place code) =
+    IsFirst (IsNameFault ms) (Some (record { place = place; code = code }))
 RefusesNames ms OutOfMemory = Unit {0}

@@ -1,27 +1,57 @@
 -- What a text says of names, with each region as one whole, and what the names mean region by
--- region. The marks of such notes are those that a caller makes of a text whose regions all end; the
--- law of `by_regions` ties the two.
+-- region. The marks of such notes are those that a caller makes of a text whose regions all end;
+-- the law of `by_regions` ties the two.
 --
---   Note                   one thing that a text says of names, other than that a region begins or ends
+--   Note                   one thing that a text says of names, other than that a region begins or
+--                          ends
 --   Notes                  what a text says: one note before others, or a region before others
 --   marks ns               the marks of notes: a region's between its begin and its end
 --   RegionScope            the names that a region defines itself
 --   own k n ns             those of notes, where the first definition has the number n
 --   found scope name       the first definition of the name in a scope
 --   looked scopes name     the first in the innermost of these scopes that has one
---   told k g scopes n ns   what g says of each note, by the scopes round it and how many definitions
---                          stand before
+--   told k g scopes n ns   what g says of each note, by the scopes round it and how many
+--                          definitions stand before
 --   told_in k g ns         the same of a whole text
 --   value_meant, block_meant, value_wrong, block_wrong
 --                          what a note means, and what is wrong with it
 --   IsWrong ns f           f is a fault of the notes
-use Rattle.std.specs.Prelude.{ℕ, ◌+◌, ◌==◌, Bool, false, not, ◌&&◌, ◌||◌, List, [], ◌∷◌, ◌++◌, length, bytes_eq, if◌then◌else◌, nat_lt, option_map, option_to_list, ◌⊎◌, Contains}
+use Rattle.std.specs.Prelude.{
+  ℕ,
+  ◌+◌,
+  ◌==◌,
+  Bool,
+  false,
+  not,
+  ◌&&◌,
+  ◌||◌,
+  List,
+  [],
+  ◌∷◌,
+  ◌++◌,
+  length,
+  bytes_eq,
+  if◌then◌else◌,
+  nat_lt,
+  option_map,
+  option_to_list,
+  ◌⊎◌,
+  Contains,
+}
 use Rattle.std.specs.declared.option.Option.{Option}
 use Rattle.std.specs.declared.option.Option.TheVariants.{Some, None}
 use Rattle.first_fault.specs.declared.fault.Fault.{Fault}
 use Rattle.symbol_scopes.specs.declared.call.NameKind.{NameKind}
 use Rattle.symbol_scopes.specs.declared.call.NameKind.TheVariants.{Values, Labels}
-use Rattle.symbol_scopes.specs.ScopeMarks.{Name, ScopeMark, Definition, Use, Label, Successor, AliasName}
+use Rattle.symbol_scopes.specs.ScopeMarks.{
+  Name,
+  ScopeMark,
+  Definition,
+  Use,
+  Label,
+  Successor,
+  AliasName,
+}
 use Rattle.symbol_scopes.specs.ScopeMarks as mark
 use Rattle.symbol_scopes.specs.Meanings.{or_else}
 use Rattle.first_fault.specs.Firsts.{IsFaultBy}
@@ -110,14 +140,16 @@ innermost (s ∷ ss) = s
 
 -- what g says of each note, by the scopes round it and the count of definitions before it; inside
 -- a region its own scope is the innermost
-abbrev pub told : {A : Type 0} → NameKind → (List RegionScope → ℕ → Note → List A) → List RegionScope → ℕ → Notes → List A
+abbrev pub told : {A : Type 0} → NameKind → (List RegionScope → ℕ → Note → List A)
+    → List RegionScope → ℕ → Notes → List A
 told k g ss n no_notes = []
 told k g ss n (note x ns) = g ss n x ++ told k g ss (n + count_of k x) ns
 told k g ss n (in_region inner ns) =
     told k g (own k n inner ∷ ss) n inner ++ told k g ss (n + count k inner) ns
 
 -- the same of a whole text, with the top level round all notes
-abbrev pub told_in : {A : Type 0} → NameKind → (List RegionScope → ℕ → Note → List A) → Notes → List A
+abbrev pub told_in : {A : Type 0} → NameKind → (List RegionScope → ℕ → Note → List A) → Notes
+    → List A
 told_in k g ns = told k g (own k 0 ns ∷ []) 0 ns
 
 -- ---- what is meant, and what is at fault

@@ -1,9 +1,9 @@
 -- What a text says of names: a list of marks, in the order of the text.
 --
 -- A region of an operation begins and ends, a name is defined or used, a block is labelled or led
--- to, an alias is defined or mentioned. Regions are numbered in the order in which they are entered;
--- the top level is region 0, and is open throughout. The definitions of value names are numbered
--- from 0 in the order of the text, and so are the uses and the successors.
+-- to, an alias is defined or mentioned. Regions are numbered in the order in which they are
+-- entered; the top level is region 0, and is open throughout. The definitions of value names are
+-- numbered from 0 in the order of the text, and so are the uses and the successors.
 --
 --   ScopeMark            one thing that a text says of names
 --   Definition, Use, Label, Successor, AliasName

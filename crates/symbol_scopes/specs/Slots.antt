@@ -2,14 +2,32 @@
 --
 --   AreDistinctNames ns      no name stands twice
 --   found_in ds n            the definition with the number n
---   slot_of ds round name    the number of what the name means in these regions, and the least number of
---                            a definition of it in any of them
+--   slot_of ds round name    the number of what the name means in these regions, and the least
+--                            number of a definition of it in any of them
 --   Descend n round          the numbers of these regions fall, from below n
---   AreSlots ns ds round t   the table says what each name means in these regions, and keeps what it
---                            means outside each of them
+--   AreSlots ns ds round t   the table says what each name means in these regions, and keeps what
+--                            it means outside each of them
 --
 -- Inside: no public clause rests on this.
-use Rattle.std.specs.Prelude.{◌≡◌, ℕ, ◌<◌, List, [], ◌∷◌, ◌++◌, map, length, slice_get, min, bytes_eq, false, get_or, ◌==◌, if◌then◌else◌, option_map}
+use Rattle.std.specs.Prelude.{
+  ◌≡◌,
+  ℕ,
+  ◌<◌,
+  List,
+  [],
+  ◌∷◌,
+  ◌++◌,
+  map,
+  length,
+  slice_get,
+  min,
+  bytes_eq,
+  false,
+  get_or,
+  ◌==◌,
+  if◌then◌else◌,
+  option_map,
+}
 use Rattle.std.specs.List.{AllByRecursion}
 use Rattle.std.specs.declared.option.Option.{Option}
 use Rattle.std.specs.declared.option.Option.TheVariants.{Some, None}
@@ -34,7 +52,8 @@ abbrev pub least_of : List Binding → List ℕ → Name → ℕ
 least_of ds [] name = length ds
 least_of ds (r ∷ round) name = min (at_or (length ds) (first_in ds r name)) (least_of ds round name)
 
--- the number of what a name means in these regions, and the least number of a definition of it there
+-- the number of what a name means in these regions, and the least number of a definition of it
+-- there
 abbrev pub slot_of : List Binding → List ℕ → Name → NameSlot
 slot_of ds round name =
     record { found = at_or (length ds) (meant ds round name); least = least_of ds round name }
@@ -50,7 +69,8 @@ Descend n (r ∷ round) = (r < n) × Descend r round
 
 -- the slots say what each name means in these regions, and what it means outside each of them is
 -- kept for each definition in it
-pub record AreSlots (ns : List Name) (ds : List Binding) (round : List ℕ) (t : NameSlots) : Type 0 where
+pub record AreSlots (ns : List Name) (ds : List Binding) (round : List ℕ) (t : NameSlots)
+    : Type 0 where
   pub slots : t.slots.items ≡ map (slot_of ds round) ns
   pub room : length t.saved.items ≡ length ds
   pub saved : (inner rest : List ℕ) (r : ℕ) → round ≡ inner ++ r ∷ rest

@@ -1,5 +1,5 @@
--- The calls that steps stand for: a step has small numbers in place, and any other call is kept among
--- the large ones.
+-- The calls that steps stand for: a step has small numbers in place, and any other call is kept
+-- among the large ones.
 --
 --   call_of large step      the call of a step
 --   calls_of large steps    the calls of steps

@@ -5,7 +5,8 @@ ghost use Rattle.first_fault.specs.Firsts.{IsFirst, IsFaultBy};
 ghost use Rattle.symbol_scopes.specs.Faults as spec;
 ghost use Rattle.symbol_scopes.specs.Aliases.{KnowsAliases};
 ghost use Rattle.symbol_scopes.specs.ScopeMarks.{ScopeMark};
-ghost use Rattle.symbol_scopes.specs.Calls.{mark_of, marks_of, numbered_name, AreNamed, IsNamed};
+ghost use Rattle.symbol_scopes.specs.Calls.{mark_of, marks_of, numbered_name};
+ghost use Rattle.symbol_scopes.specs.Calls.{AreNamed, IsNamed};
 
 use crate::call::{Call, Said};
 use crate::calls::Calls;

@@ -86,7 +86,8 @@ impl Said {
 
     /// How many successors it is.
     pub fn successors(self) -> usize
-        ensures count { (name : List ℕ) → result ≡ length (successor_of (spec.said_mark name self)) }
+        ensures count { (name : List ℕ) →
+            result ≡ length (successor_of (spec.said_mark name self)) }
         ensures most { result ≤ 1 }
     {
         match self {

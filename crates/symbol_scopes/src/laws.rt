@@ -6,7 +6,14 @@ ghost use Rattle.first_fault.specs.declared.fault.Fault.{Fault};
 ghost use Rattle.symbol_scopes.specs.declared.call.NameKind.TheVariants.{Values, Labels};
 ghost use Rattle.symbol_scopes.specs.Faults.{IsNameFault};
 ghost use Rattle.symbol_scopes.specs.Meanings.{value_meanings, block_meanings};
-ghost use Rattle.symbol_scopes.specs.Regions.{Notes, marks, told_in, value_meant, block_meant, IsWrong};
+ghost use Rattle.symbol_scopes.specs.Regions.{
+  Notes,
+  marks,
+  told_in,
+  value_meant,
+  block_meant,
+  IsWrong,
+};
 
 /// The marks of notes mean what the notes mean region by region, and have the same faults.
 pub fn by_regions()

@@ -1,6 +1,20 @@
 //! The definitions of a text, with those of each region chained.
 
-ghost use Rattle.std.specs.Prelude.{◌≡◌, ◌<◌, ◌+◌, ◌^◌, ◌++◌, ◌∷◌, [], IfOk, IfSome, OnOk, List, ℕ, length};
+ghost use Rattle.std.specs.Prelude.{
+  ◌≡◌,
+  ◌<◌,
+  ◌+◌,
+  ◌^◌,
+  ◌++◌,
+  ◌∷◌,
+  [],
+  IfOk,
+  IfSome,
+  OnOk,
+  List,
+  ℕ,
+  length,
+};
 ghost use Rattle.symbol_scopes.specs.ScopeMarks.{Binding, bindings, bindings_of, standing, passed};
 ghost use Rattle.symbol_scopes.specs.Calls.{mark_of, marks_of, IsNamed, AreNamed, numbered_name};
 ghost use Rattle.symbol_scopes.specs.Listed.{IsListed, bindings_in};
@@ -57,7 +71,11 @@ impl Listed {
         requires { region < length self.old.heads.items }
         ensures { OnOk result ((ns : List (List ℕ)) (ds : List Binding) (n : ℕ) →
             IsListed ns ds n self.old → name < length ns →
-            let more : Binding = record { name = numbered_name ns name; region = region; number = number } in
+            let more : Binding = record {
+              name = numbered_name ns name;
+              region = region;
+              number = number;
+            } in
             IsListed ns (ds ++ more ∷ []) n self.new) }
     {
         let at = self.rows.len();

@@ -1,6 +1,18 @@
 //! Names, each kept once and known by its number.
 
-ghost use Rattle.std.specs.Prelude.{◌≡◌, ◌<◌, ◌⊎◌, ◌++◌, ◌∷◌, [], Some, slice_get, length, IfOk, OnErr};
+ghost use Rattle.std.specs.Prelude.{
+  ◌≡◌,
+  ◌<◌,
+  ◌⊎◌,
+  ◌++◌,
+  ◌∷◌,
+  [],
+  Some,
+  slice_get,
+  length,
+  IfOk,
+  OnErr,
+};
 ghost use Rattle.symbol_scopes.specs.Slots.{AreDistinctNames};
 
 use attr_value::Text;

@@ -25,7 +25,8 @@ impl Model for Round {
 
     ghost view = { λ s. record { entered = s.entered; round = reverse s.regions.items } };
 
-    ghost invariant = { λ s. (0 < length s.regions.items) × Descend (s.entered + 1) (reverse s.regions.items) };
+    ghost invariant = { λ s. (0 < length s.regions.items)
+        × Descend (s.entered + 1) (reverse s.regions.items) };
 }
 
 impl Round {

@@ -1,6 +1,20 @@
 //! What a caller notes of names, and what they mean.
 
-ghost use Rattle.std.specs.Prelude.{◌≡◌, ◌++◌, ◌∷◌, [], IfOk, OnOk, OnErr, IfErr, length, map, slice_get, None, Some};
+ghost use Rattle.std.specs.Prelude.{
+  ◌≡◌,
+  ◌++◌,
+  ◌∷◌,
+  [],
+  IfOk,
+  OnOk,
+  OnErr,
+  IfErr,
+  length,
+  map,
+  slice_get,
+  None,
+  Some,
+};
 ghost use Rattle.first_fault.specs.Firsts.{IsFirst};
 ghost use Rattle.symbol_scopes.specs.Faults.{IsNameFault};
 ghost use Rattle.symbol_scopes.specs.Calls.{said_mark};
@@ -25,13 +39,21 @@ use std::marker::Model;
 #[derive(Clone, Copy, Debug, PartialEq, Eq)]
 pub enum NameStop {
     /// A rule on names is broken, as by a use of `%y` where no region round it defines `%y`. The
-    /// place is one that the caller gave with the name, and the code is that of the rule.
+    /// place is one that the caller gave with the name, in bytes from 0. The code is the number of
+    /// the rule, 5 to 12, by the list in `specs/Faults.antt`.
     Refused { place: u32, code: u32 },
     /// Memory ran out.
     OutOfMemory,
 }
 
-/// What a text says of names. Contracts see the list of its marks.
+/// What a text says of names. Contracts see the list of its marks (`specs/ScopeMarks.antt`).
+///
+/// Things are noted in the order of the text. A place is where a token begins, in bytes from 0. It
+/// is handed out again with a fault, and of several faults that with the least place is the first.
+///
+/// Where memory runs out nothing is noted: the marks are those before the call. There is room for
+/// 2^32 - 1 names, and for as many notes with large numbers; in `finish`, for as many regions, and
+/// definitions of a kind. More is want of memory.
 #[derive(Drop)]
 pub struct Scopes {
     names: Names,
@@ -58,7 +80,8 @@ impl Model for Scopes {
         × (s.successors ≡ length (successors_in (marks_of s.names s.calls))) };
 }
 
-/// What uses and successors mean.
+/// What uses and successors mean, by the numbers that `Scopes` gave them. Contracts see two lists
+/// (`specs/Uses.antt`).
 #[derive(Drop)]
 pub struct Uses {
     values: Vec<(u32, u32)>,
@@ -74,8 +97,12 @@ impl Model for Uses {
 }
 
 impl Uses {
-    /// The definition that a use means, and the number in its pack; `None` exactly where there is
-    /// no such use. It takes no memory.
+    /// What the use with this number means: the number that `define` gave its definition, and the
+    /// number of the value in the definition's pack, from 0. It is `None` exactly where there is no
+    /// such use. It takes no memory.
+    ///
+    /// A use means the first definition of its name in the innermost region round it that has one,
+    /// wherever it stands there.
     pub fn value(&self, mention: usize) -> Option<(usize, u32)>
         ensures { result ≡ slice_get self.now.values mention }
     {
@@ -85,8 +112,10 @@ impl Uses {
         }
     }
 
-    /// The number of the block that a successor means; `None` exactly where there is no such
-    /// successor. It takes no memory.
+    /// What the successor with this number means: the number of a block in its region, the entry
+    /// block being 0. It is `None` exactly where there is no such successor. It takes no memory.
+    ///
+    /// A successor means the first label of its name in its own region.
     pub fn block(&self, mention: usize) -> Option<usize>
         ensures { result ≡ slice_get self.now.blocks mention }
     {
@@ -112,7 +141,7 @@ impl Scopes {
         }
     }
 
-    /// A region begins.
+    /// A region begins. Regions number from 1 in this order, the top level being region 0.
     pub fn enter(&mut self) -> Result<(), AllocError>
         ensures ok { OnOk result (self.new ≡ self.old ++ mark.enters ∷ []) }
         ensures err { OnErr result (self.new ≡ self.old) }
@@ -121,7 +150,7 @@ impl Scopes {
         Ok(())
     }
 
-    /// The innermost region ends.
+    /// The innermost region ends. The top level stays open.
     pub fn leave(&mut self) -> Result<(), AllocError>
         ensures ok { OnOk result (self.new ≡ self.old ++ mark.leaves ∷ []) }
         ensures err { OnErr result (self.new ≡ self.old) }
@@ -130,8 +159,11 @@ impl Scopes {
         Ok(())
     }
 
-    /// A name is defined for a pack of `count` values, or one of a wrong size where that is 0. It
-    /// gives the definition's number, counted from 0.
+    /// A value name is defined, in the innermost region, for a pack of `count` values. A count of 0
+    /// stands for a pack of a wrong size, in which every number is allowed. It gives the
+    /// definition's number, counted from 0 over the text.
+    ///
+    /// Rule 8 is broken where the name is defined earlier in a region that is open here.
     pub fn define(&mut self, name: &[u8], place: u32, count: u32) -> Result<usize, AllocError>
         ensures ok { OnOk result (self.new ≡ self.old
             ++ mark.defines (record { name = name.now; place = place; count = count }) ∷ []) }
@@ -143,7 +175,13 @@ impl Scopes {
         Ok(number)
     }
 
-    /// A name is used. It gives the use's number, counted from 0.
+    /// A value name is used: the value with this number, from 0, of the pack that the name means.
+    /// `number_place` is where the number stands in the text; of number 0 it is never handed out,
+    /// and a use without a number has 0. It gives the use's own number, counted from 0 over the
+    /// text.
+    ///
+    /// Rule 7 is broken at `place` where no open region defines the name, before the use or behind
+    /// it, and rule 9 at `number_place` where its pack has no value of the number.
     pub fn mention(
         &mut self,
         name: &[u8],
@@ -172,7 +210,10 @@ impl Scopes {
         Ok(at)
     }
 
-    /// The label of a block of the innermost region. There is memory for `u32::MAX` blocks.
+    /// A block of the innermost region has this label. The block is its number in the region, the
+    /// entry block being 0. One past 2^32 - 1 is want of memory.
+    ///
+    /// Rule 11 is broken where the label stands earlier in the region.
     pub fn define_block(&mut self, name: &[u8], place: u32, block: usize) -> Result<(), AllocError>
         ensures ok { OnOk result (self.new ≡ self.old
             ++ mark.labels (record { name = name.now; place = place; block = block }) ∷ []) }
@@ -185,7 +226,11 @@ impl Scopes {
         self.note(name, Said::Label { place, block })
     }
 
-    /// A successor. It gives its number among successors, counted from 0.
+    /// A block of the innermost region is led to by its label. It gives the successor's number,
+    /// counted from 0 over the text.
+    ///
+    /// Rule 10 is broken where the region has no such label, before the successor or behind it, and
+    /// rule 12 where the label is that of the entry block.
     pub fn mention_block(&mut self, name: &[u8], place: u32) -> Result<usize, AllocError>
         ensures ok { OnOk result (self.new ≡ self.old
             ++ mark.leads_to (record { name = name.now; place = place }) ∷ []) }
@@ -197,7 +242,9 @@ impl Scopes {
         Ok(at)
     }
 
-    /// An alias is defined.
+    /// An alias is defined, of types or else of attributes, for all that follows in the text.
+    ///
+    /// Rule 6 is broken where one of the same sort and name is defined earlier.
     pub fn define_alias(&mut self, is_type: bool, name: &[u8], place: u32) -> Result<(), AllocError>
         ensures ok { OnOk result (self.new ≡ self.old ++ mark.defines_alias
             (record { is_type = is_type; name = name.now; place = place }) ∷ []) }
@@ -206,7 +253,9 @@ impl Scopes {
         self.note(name, Said::DefineAlias { is_type, place })
     }
 
-    /// An alias is mentioned.
+    /// An alias is mentioned, of types or else of attributes.
+    ///
+    /// Rule 5 is broken where none of the same sort and name is defined earlier.
     pub fn mention_alias(
         &mut self,
         is_type: bool,
@@ -220,7 +269,7 @@ impl Scopes {
         self.note(name, Said::MentionAlias { is_type, place })
     }
 
-    /// A pack has a wrong size.
+    /// A pack has a wrong size, at this place. It breaks rule 9 by itself.
     pub fn note_pack(&mut self, place: u32) -> Result<(), AllocError>
         ensures ok { OnOk result (self.new ≡ self.old ++ mark.bad_pack place ∷ []) }
         ensures err { OnErr result (self.new ≡ self.old) }
@@ -242,8 +291,8 @@ impl Scopes {
         Ok(())
     }
 
-    /// What uses and successors mean, or the first fault: the least place, and there the lowest
-    /// code.
+    /// What uses and successors mean, or the first fault: that with the least place, and there with
+    /// the least code. Regions that are still open end with the text.
     pub fn finish(self) -> Result<Uses, NameStop>
         ensures ok { OnOk result ((f : Fault) → IsNameFault self f → ⊥) }
         ensures values { IfOk result (λ u. map Some u.values ≡ value_meanings self) }

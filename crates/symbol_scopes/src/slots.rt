@@ -1,6 +1,6 @@
 //! What each name means in the open regions.
 
-ghost use Rattle.std.specs.Prelude.{◌≡◌, ◌<◌, ◌+◌, ◌∷◌, [], IfOk, OnOk, List, ℕ, length, Some, slice_get};
+ghost use Rattle.std.specs.Prelude.{◌≡◌, ◌<◌, [], IfOk, List, ℕ, length};
 ghost use Rattle.symbol_scopes.specs.ScopeMarks.{Binding, own, behind_own};
 ghost use Rattle.symbol_scopes.specs.Listed.{IsListed, bindings_in};
 ghost use Rattle.symbol_scopes.specs.Slots.{AreSlots, outer_of};
@@ -11,8 +11,8 @@ use crate::rows::Listed;
 use std::alloc::{AllocError, Global};
 use std::mem::size_of;
 
-/// A definition that a name means: its number, its region, and the size of its pack or the number of
-/// its block.
+/// A definition that a name means: its number, its region, and the size of its pack or the number
+/// of its block.
 #[derive(Clone, Copy)]
 pub struct FoundBinding {
     pub at: u32,
@@ -20,8 +20,8 @@ pub struct FoundBinding {
     pub number: u32,
 }
 
-/// The number of the definition that a name means, and the least number of a definition of it in the
-/// open regions. Both are the count of definitions where there is none.
+/// The number of the definition that a name means, and the least number of a definition of it in
+/// the open regions. Both are the count of definitions where there is none.
 #[derive(Clone, Copy)]
 pub struct NameSlot {
     pub found: u32,

@@ -45,7 +45,8 @@ impl Walk {
             self.old.round.round self.old.slots }
         requires regions { (passed self.old.round (mark_of names.now next)).entered
             < length listed.now.heads.items }
-        ensures round { OnOk result (self.new.round ≡ passed self.old.round (mark_of names.now next)) }
+        ensures round { OnOk result
+            (self.new.round ≡ passed self.old.round (mark_of names.now next)) }
         ensures slots { OnOk result (AreSlots names.now (bindings_in names.now listed.now)
             self.new.round.round self.new.slots) }
     {

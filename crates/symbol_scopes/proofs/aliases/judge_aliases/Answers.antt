@@ -1,4 +1,4 @@
-use Rattle.std.proofs.Common.{◌<◌, List, [], ◌∷◌, ◌++◌, take, ap, sym, ◌∙◌, subst, arith}
+use Rattle.std.proofs.Common.{List, [], ◌∷◌, ◌++◌, take, ap, sym, ◌∙◌, subst, arith}
 use Rattle.first_fault.specs.Firsts.{earlier_of, IsFirst, IsFaultBy}
 use Rattle.symbol_scopes.specs.Faults.{alias_fault}
 use Rattle.symbol_scopes.specs.Aliases.{KnowsAliases}

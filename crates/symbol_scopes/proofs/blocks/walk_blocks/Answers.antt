@@ -1,4 +1,4 @@
-use Rattle.std.proofs.Common.{◌<◌, length, arith}
+use Rattle.std.proofs.Common.{arith}
 use Rattle.symbol_scopes.specs.declared.call.NameKind.TheVariants.{Labels}
 use Rattle.symbol_scopes.specs.Faults.{block_fault}
 use Rattle.symbol_scopes.specs.Meanings.{block_meaning}

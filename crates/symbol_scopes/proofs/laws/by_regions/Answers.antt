@@ -1,4 +1,5 @@
-use Rattle.symbol_scopes.proofs.Regions.{values-by-regions, blocks-by-regions, faults-by-regions}
+use Rattle.symbol_scopes.proofs.RegionMeanings.{values-by-regions, blocks-by-regions}
+use Rattle.symbol_scopes.proofs.RegionFaults.{faults-by-regions}
 use Rattle.symbol_scopes.proofs.laws.by_regions.Goals as goal
 
 pub returns-clause-values : goal.returns-clause-values

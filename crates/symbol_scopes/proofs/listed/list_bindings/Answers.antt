@@ -1,7 +1,7 @@
-use Rattle.std.proofs.Common.{◌≡◌, ◌<◌, ◌+◌, ◌++◌, length, take, ap, sym, ◌∙◌, subst, arith}
+use Rattle.std.proofs.Common.{◌≡◌, ◌+◌, ◌++◌, take, ap, sym, ◌∙◌, arith}
 use Rattle.symbol_scopes.specs.ScopeMarks.{bindings, bindings_of, standing, passed}
 use Rattle.symbol_scopes.specs.Calls.{mark_of, marks_of}
-use Rattle.symbol_scopes.specs.Listed.{IsListed, bindings_in}
+use Rattle.symbol_scopes.specs.Listed.{bindings_in}
 use Rattle.symbol_scopes.proofs.Walks.{at-step, further-along, marks-whole}
 use Rattle.symbol_scopes.proofs.Listing.{listed-same}
 use Rattle.symbol_scopes.proofs.listed.list_bindings.Goals as goal

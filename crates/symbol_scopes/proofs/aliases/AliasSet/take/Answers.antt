@@ -1,4 +1,4 @@
-use Rattle.std.proofs.Common.{◌<◌, length, refl, ap, ◌∙◌, subst}
+use Rattle.std.proofs.Common.{length, refl, ap, ◌∙◌, subst}
 use Rattle.symbol_scopes.specs.declared.call.Call.TheVariants.{Name}
 use Rattle.symbol_scopes.specs.Calls.{IsNamed}
 use Rattle.symbol_scopes.proofs.KnownAliases.{knows-plain, knows-other, knows-type, knows-attribute}

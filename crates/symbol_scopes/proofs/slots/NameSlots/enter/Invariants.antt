@@ -1,7 +1,7 @@
 use Rattle.symbol_scopes.specs.ScopeMarks.{behind_own}
 use Rattle.symbol_scopes.specs.Listed.{bindings_in}
 use Rattle.symbol_scopes.proofs.Finds.{bound}
-use Rattle.symbol_scopes.proofs.Turns.{Begins}
+use Rattle.symbol_scopes.proofs.Beginning.{Begins}
 use Rattle.symbol_scopes.proofs.slots.NameSlots.enter.Given as goal
 
 abbrev pub invariant-loop-at : goal.invariant-loop-at
