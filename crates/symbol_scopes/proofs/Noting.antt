@@ -1,4 +1,4 @@
--- One more passed, as the list of marks that it makes longer.
+-- One call more, and the list of marks that it makes longer.
 use Rattle.std.proofs.Common.{◌≡◌, ℕ, ◌+◌, ◌<◌, ◌≤◌, ◌⊎◌, inl, inr, List, [], ◌∷◌, ◌++◌, length, refl, ap, sym, ◌∙◌, subst, arith, length-append}
 use Rattle.std.proofs.Math.ListN.{get_or-append}
 use Rattle.std.proofs.lemmas.List.{map-append, length-map}
@@ -15,7 +15,7 @@ use Rattle.symbol_scopes.specs.Calls.{mark_of, marks_of, said_mark, numbered_nam
 use Rattle.symbol_scopes.proofs.Lists.{all-push, all-weaker}
 use Rattle.symbol_scopes.proofs.Walks.{along-more}
 
--- a passed's name stays where names are added
+-- a call's name stays where names are added
 kept-name : (ns more : List Name) (n : ℕ) → n < length ns → numbered_name (ns ++ more) n ≡ numbered_name ns n
 kept-name ns more n within = get_or-append ns more [] n within
 
@@ -191,7 +191,7 @@ module _ (old new : List Name) (name : Name) (calls : List Call) (d u t : ℕ)
       (subst (AreNamed (length new)) (sym e) (grown-marks old new name calls grown h.0).1)
       h.1 h.2 h.3
 
-  -- one passed was noted
+  -- one call more was noted
   pub more-marks : (x : Call) → after ≡ calls ++ x ∷ [] → IsNamed (length new) x
       → marks_of new after ≡ marks_of old calls ++ mark_of new x ∷ []
   more-marks x e here =

@@ -1,4 +1,4 @@
--- One mark more, and the passed that stands for it.
+-- One mark more, and the call that stands for it.
 use Rattle.std.proofs.Common.{◌≡◌, ℕ, ◌+◌, ◌<◌, ◌≤◌, List, [], ◌∷◌, ◌++◌, length, take, refl, ap, sym, ◌∙◌, arith, slice_get, append_assoc, append-nil}
 use Rattle.std.proofs.lemmas.List.{take_more, length-map, take_all}
 use Rattle.std.proofs.lemmas.Option.{get_or_from_slice_get, slice_get_within, slice_get-get_or}

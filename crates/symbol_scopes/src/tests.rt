@@ -111,6 +111,23 @@ const RIGHT: &[Right] = &[
         &[],
         &[2, 1],
     ),
+    // long names, and large numbers of packs and blocks
+    (
+        &[
+            Def("a_name_that_is_long_1", 70_000),
+            Def("a_name_that_is_long_2", 1),
+            Use("a_name_that_is_long_2", 0),
+            Use("a_name_that_is_long_1", 69_999),
+            Use("a_name_that_is_long_1", 255),
+            Use("a_name_that_is_long_1", 256),
+            In,
+            Label("a_block_that_is_late", 70_000),
+            To("a_block_that_is_late"),
+            Out,
+        ],
+        &[(1, 0), (0, 69_999), (0, 255), (0, 256)],
+        &[70_000],
+    ),
     // values, labels and both sorts of aliases have names of their own
     (
         &[
@@ -153,6 +170,7 @@ const WRONG: &[Wrong] = &[
     (&[Def("p", 2), Use("p", 2)], (11, 9)),
     (&[Use("p", 2), Def("p", 1), Def("p", 3)], (1, 9)),
     (&[Use("p", 2), Def("p", 3), Def("p", 1)], (20, 8)),
+    (&[Def("p", 70_000), Use("p", 70_000)], (11, 9)),
     // a pack of a wrong size, whose uses aren't judged
     (&[Def("p", 0), Use("p", 7), BadPack], (20, 9)),
     // successors
