@@ -7,3 +7,4 @@ pub mod Settled
 pub mod Found
 pub mod Goods
 pub mod Instances
+pub mod Grows

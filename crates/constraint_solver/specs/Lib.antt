@@ -1,3 +1,4 @@
 pub mod Roots
 pub mod Definitions
+pub mod Grown
 pub mod Search
