@@ -1,13 +1,49 @@
--- The definitions of a kind and name that were tried.
-use Rattle.std.proofs.Common.{◌≡◌, ◌∙◌, ℕ, ◌+◌, ◌<◌, ◌≤◌, ◌⊎◌, inl, inr, Bool, List, length, get_or}
+-- Instances of a kind and name and instances of one definition; and the definitions of a kind and
+-- name that were tried.
+use Rattle.std.proofs.Common.{◌≡◌, ◌∙◌, ◌↔◌, ℕ, ◌+◌, ◌<◌, ◌≤◌, ◌⊎◌, inl, inr, Bool, List, length}
+use Rattle.std.proofs.Common.{get_or}
 use Rattle.std.proofs.Common.{ap, sym, subst, arith}
 use Rattle.std.proofs.lemmas.Bool.{cases_lt}
 use Rattle.attr_value.specs.Values.{Value}
 use Rattle.dialect_defs.specs.declared.definition.TypeDef.{TypeDef}
 use Rattle.dialect_defs.specs.Assignments.{Tests}
-use Rattle.dialect_defs.specs.Goodness.{IsInstance}
-use Rattle.constraint_solver.specs.Definitions.{IsInstanceOf}
+use Rattle.dialect_defs.specs.Goodness.{IsDefinedAs, IsInstance}
+use Rattle.constraint_solver.specs.Definitions.{IsInstanceOf, IsOnlyDefinition}
 use Rattle.constraint_solver.proofs.Settled.{same-default}
+
+-- an instance of a definition is one of the definition's kind and name
+pub instance-named : {values : List Value} {tests : Tests} {types : List TypeDef} {is_type : Bool}
+    {name : List ℕ} {d : TypeDef} {kids : List Value} → IsDefinedAs types is_type name d
+    → IsInstanceOf values tests d kids → IsInstance values tests types is_type name kids
+instance-named {d = d} defined instance = record {
+  definition = d;
+  defined = defined;
+  assignment = instance.assignment;
+  meets = instance.meets;
+  params = instance.params;
+}
+
+-- an instance of a kind and name is one of some definition of these
+pub instance-of-its : {values : List Value} {tests : Tests} {types : List TypeDef}
+    {is_type : Bool} {name : List ℕ} {kids : List Value}
+    → (instance : IsInstance values tests types is_type name kids)
+    → IsInstanceOf values tests instance.definition kids
+instance-of-its instance = record {
+  assignment = instance.assignment;
+  meets = instance.meets;
+  params = instance.params;
+}
+
+-- where one definition alone is of a kind and name, instances of these are those of it
+pub instance-of-named : {types : List TypeDef} {is_type : Bool} {name : List ℕ} {d : TypeDef}
+    → IsOnlyDefinition types is_type name d
+    → (values : List Value) (tests : Tests) (kids : List Value)
+    → IsInstance values tests types is_type name kids ↔ IsInstanceOf values tests d kids
+instance-of-named only values tests kids = (
+  λ instance. subst (λ e. IsInstanceOf values tests e kids)
+      (only.only instance.definition instance.defined) (instance-of-its instance),
+  λ instance. instance-named only.defined instance,
+)
 
 module _ (values : List Value) (tests : Tests) (is_type : Bool) (name : List ℕ)
     (kids : List Value) where
@@ -44,17 +80,8 @@ module _ (values : List Value) (tests : Tests) (is_type : Bool) (name : List ℕ
   -- one that does makes an instance
   pub serves-instance : (types : List TypeDef) (i : ℕ) (d : TypeDef) → i < length types
       → d ≡ get_or types i d → Serves d → IsInstance values tests types is_type name kids
-  serves-instance types i d within is s = record {
-    definition = d;
-    defined = record {
-      listed = (i, within, sym is);
-      kind = s.kind;
-      named = s.named;
-    };
-    assignment = s.instance.assignment;
-    meets = s.instance.meets;
-    params = s.instance.params;
-  }
+  serves-instance types i d within is s = instance-named
+      (record { listed = (i, within, sym is); kind = s.kind; named = s.named }) s.instance
 
   -- where none does, there is no instance
   pub no-instance : (types : List TypeDef) (i : ℕ) → length types ≤ i → NotBefore types i
@@ -66,9 +93,5 @@ module _ (values : List Value) (tests : Tests) (is_type : Bool) (name : List ℕ
       (subst Serves (sym listed.2) (record {
         kind = instance.defined.kind;
         named = instance.defined.named;
-        instance = record {
-          assignment = instance.assignment;
-          meets = instance.meets;
-          params = instance.params;
-        };
+        instance = instance-of-its instance;
       }))

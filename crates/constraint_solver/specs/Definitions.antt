@@ -1,17 +1,18 @@
--- What `good_head` is given, and when a value is an instance of one definition.
+-- What `good_head` and `is_instance` are given, and when a value is an instance of one definition.
 --
 --   IsSoundDef len count d                    a body is sound, and the parameters are in it
 --   AreSoundDefs len count types              bodies are sound, and parameters are in their bodies
 --   HasGoodKids values tests types v          the kids of a value are good
 --   IsInstanceOf values tests d kids          some assignment of this definition gives its
 --                                             parameters the kids
-use Rattle.std.specs.Prelude.{ℕ, List, length}
+--   IsOnlyDefinition types is_type name d     the list has no definition of the kind and name but d
+use Rattle.std.specs.Prelude.{◌≡◌, ℕ, Bool, List, length}
 use Rattle.std.specs.List.{AllByRecursion}
 use Rattle.attr_value.specs.Values.{Value, list_of}
 use Rattle.dialect_defs.specs.declared.definition.TypeDef.{TypeDef}
 use Rattle.dialect_defs.specs.Assignments.{Tests, Assignment, HaveEach, MeetsBody}
 use Rattle.dialect_defs.specs.Bodies.{AreBelow, IsSoundBody}
-use Rattle.dialect_defs.specs.Goodness.{Good, vars_of}
+use Rattle.dialect_defs.specs.Goodness.{Good, IsDefinedAs, vars_of}
 
 -- the body of a definition is sound, and the parameters are values of variables of it
 pub record IsSoundDef (len count : ℕ) (d : TypeDef) : Type 0 where
@@ -33,3 +34,9 @@ pub record IsInstanceOf (values : List Value) (tests : Tests) (d : TypeDef) (kid
   pub assignment : Assignment
   pub meets : MeetsBody values tests d.body assignment
   pub params : HaveEach assignment (vars_of d.params) kids
+
+-- d is a definition of this kind and full name, and each of the list that has these is d
+pub record IsOnlyDefinition (types : List TypeDef) (is_type : Bool) (name : List ℕ)
+    (d : TypeDef) : Type 0 where
+  pub defined : IsDefinedAs types is_type name d
+  pub only : (e : TypeDef) → IsDefinedAs types is_type name e → e ≡ d

@@ -1,4 +1,4 @@
-//! Which values are good.
+//! Which values are good, and which are instances of definitions.
 
 ghost use Rattle.std.specs.Prelude.{◌≡◌, ◌<◌, ◌↔◌, length, IsTrue};
 ghost use Rattle.attr_value.specs.Ids.{at, kids_at, AreKnown};
@@ -15,8 +15,12 @@ use attr_value::{DEPTH_LIMIT, Head, Text, ValueId};
 use dialect_defs::TypeDef;
 use native_predicate::Natives;
 
-/// Whether some assignment of a definition gives its parameters these kids.
-fn is_instance_of(d: &TypeDef, natives: &Natives, u: &Uniquer, kids: &[ValueId]) -> bool
+/// Whether these kids are the parameters of an instance of this definition: there are as many, and
+/// some assignment that meets the definition's body gives each parameter's variable the kid at its
+/// place (`IsInstanceOf` in `specs/Definitions.antt`). It doesn't ask whether the kids are good,
+/// nor how deep a value of them nests, which `good_head` tests. The body has at most
+/// `VARIABLE_LIMIT` variables, as `is_sound_def` tests. It takes no memory.
+pub fn is_instance_of(d: &TypeDef, natives: &Natives, u: &Uniquer, kids: &[ValueId]) -> bool
     requires def { IsSoundDef (length u.now) (count natives.now) d.now }
     requires kids { AreKnown (length u.now) kids.now }
     ensures { IsTrue result ↔ IsInstanceOf u.now (tests property natives.now) d.now
@@ -41,9 +45,12 @@ fn is_defined_as(d: &TypeDef, is_type: bool, name: &Text) -> bool
     d.is_type == is_type && d.name == *name
 }
 
-/// Whether these are the kids of an instance of a definition of this kind and name. Where several
-/// are of one name, any of them will do.
-fn is_instance(
+/// Whether these kids are the parameters of an instance of some definition of this kind and full
+/// name, such as `cmath.complex` (`IsInstance` in `specs/Goodness.antt` of `dialect_defs`). Where
+/// several have the name, any of them will do; where none has, the answer is false; where one alone
+/// has, it is that of `is_instance_of` (`instance-of-named` in `proofs/Instances.antt`). Like that,
+/// it asks nothing of the kids' own rules and of depth. It takes no memory.
+pub fn is_instance(
     types: &[TypeDef],
     natives: &Natives,
     u: &Uniquer,
@@ -87,9 +94,8 @@ fn is_defined(
 }
 
 /// Whether a value whose kids are good is good with these definitions: it nests no deeper than
-/// the limit,
-/// keeps to its head's rule, and is an instance of some definition of its kind and name where it is
-/// a dialect's. It takes no memory.
+/// `DEPTH_LIMIT`, keeps to its head's rule, and is an instance of some definition of its kind and
+/// name where it is a dialect's. It takes no memory.
 pub fn good_head(types: &[TypeDef], natives: &Natives, u: &Uniquer, id: ValueId) -> bool
     requires types { AreSoundDefs (length u.now) (count natives.now) types.now }
     requires id { id.0 < length u.now }

@@ -80,8 +80,9 @@ fn are_params_below(n: usize, params: &[Entry]) -> bool
     true
 }
 
-/// Whether a definition has a sound body, in which its parameters are.
-fn is_sound_def(d: &TypeDef, len: usize, count: usize) -> bool
+/// Whether `is_instance_of` takes a definition, over a table of `len` values and with `count`
+/// predicates: its body is sound, and the parameters' variables are in it. It takes no memory.
+pub fn is_sound_def(d: &TypeDef, len: usize, count: usize) -> bool
     ensures { IsTrue result ↔ IsSoundDef len count d.now }
 {
     if !is_sound_body(&d.body, len, count) {
@@ -90,9 +91,9 @@ fn is_sound_def(d: &TypeDef, len: usize, count: usize) -> bool
     are_params_below(d.body.vars.as_slice().len(), d.params.as_slice())
 }
 
-/// Whether `good_head` takes some definitions, over a table of `len` values and with `count`
-/// predicates: their bodies are sound, and the parameters' variables are in them. It takes no
-/// memory.
+/// Whether `good_head` and `is_instance` take some definitions, over a table of `len` values and
+/// with `count` predicates: their bodies are sound, and the parameters' variables are in them. It
+/// takes no memory.
 pub fn are_sound_defs(types: &[TypeDef], len: usize, count: usize) -> bool
     ensures { IsTrue result ↔ AreSoundDefs len count types.now }
 {

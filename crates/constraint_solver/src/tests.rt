@@ -276,7 +276,12 @@ fn is_good(types: &[TypeDef], natives: &Natives, u: &Uniquer, id: ValueId, deep:
 
 /// Whether !name<kid> is good. Of `cmath.complex` there are two definitions: its parameter is f64
 /// by the first, and f32 or f64 by the second. f32 has the id 0, and f64 has 1.
-fn is_instance(rt: &impl Abort, alloc: Global, name: &[u8], kid: Head) -> Result<bool, AllocError> {
+fn is_good_with(
+    rt: &impl Abort,
+    alloc: Global,
+    name: &[u8],
+    kid: Head,
+) -> Result<bool, AllocError> {
     let mut u = Uniquer::new(alloc);
     let _f32 = u.intern(Head::Float(FloatKind::F32), &[])?;
     let _f64 = u.intern(Head::Float(FloatKind::F64), &[])?;
@@ -303,7 +308,33 @@ fn the_parameter_is_the_value_of_its_variable(rt: HostRuntime) -> Result<(), Fai
         (b"cmath.complex", Head::Int(IntKind::Signless(32)), false),
         (b"cmath.other", Head::Float(FloatKind::F32), false),
     ] {
-        assert_eq!(rt; is_instance(&rt, rt.alloc(), name, kid)?, want);
+        assert_eq!(rt; is_good_with(&rt, rt.alloc(), name, kid)?, want);
+    }
+    Ok(())
+}
+
+/// Whether the definition whose parameter is f32 or f64 has an instance with this one, asked by the
+/// name `cmath.complex` and of the definition itself.
+fn has_instance(rt: &impl Abort, alloc: Global, kid: Head) -> Result<(bool, bool), AllocError> {
+    let mut u = Uniquer::new(alloc);
+    let first = u.intern(Head::Float(FloatKind::F32), &[])?;
+    let second = u.intern(Head::Float(FloatKind::F64), &[])?;
+    let kids = [u.intern(kid, &[])?];
+    let types = [complex(alloc, first, second)?];
+    let name = Text::from_slice(alloc, b"cmath.complex")?;
+    let natives = Natives::new(Vec::new(alloc));
+    let (len, count) = (u.len(), natives.len());
+    assert!(rt; are_sound_defs(&types, len, count));
+    assert!(rt; is_sound_def(&types[0], len, count));
+    let named = is_instance(&types, &natives, &u, true, &name, &kids);
+    Ok((named, is_instance_of(&types[0], &natives, &u, &kids)))
+}
+
+#[test]
+fn an_instance_is_of_a_name_and_of_a_definition(rt: HostRuntime) -> Result<(), Fail> {
+    for (kid, want) in [(FloatKind::F64, true), (FloatKind::F16, false)] {
+        let found = has_instance(&rt, rt.alloc(), Head::Float(kid))?;
+        assert_eq!(rt; found, (want, want));
     }
     Ok(())
 }
