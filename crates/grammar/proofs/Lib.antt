@@ -26,3 +26,4 @@ pub mod Knots
 pub mod FlatReads
 pub mod Wholes
 pub mod Widths
+pub mod Shallow

@@ -7,3 +7,4 @@ pub mod Looks
 pub mod Ran
 pub mod OneToken
 pub mod Rules
+pub mod Within
