@@ -1,0 +1,6 @@
+//! Values to their canonical text.
+//!
+//! What is written of a value is a function of the value alone: the list of tokens `value_marks` of
+//! `specs/ValueMarks.antt`, and `specs/Spelling.antt` has the texts of strings, symbols, keys and
+//! numbers. What stands between the tokens is the layout's business.
+#![tactic(auto)]
