@@ -8,3 +8,5 @@ pub mod Laying
 pub mod Touching
 pub mod ReadsBack
 pub mod Classes
+pub mod Tidy
+pub mod Gives

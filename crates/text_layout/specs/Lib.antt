@@ -9,3 +9,5 @@ pub mod Refusal
 pub mod Blank
 pub mod OutputFlow
 pub mod Pieces
+pub mod Tidy
+pub mod Gives
