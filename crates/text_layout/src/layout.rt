@@ -1,9 +1,10 @@
 //! A layout over a sink.
 
-ghost use Rattle.std.specs.Prelude.{◌≡◌, ◌≢◌, ◌≤◌, ◌∷◌, [], Ok, Err, Some, None, IfErr};
+ghost use Rattle.std.specs.Prelude.{◌≡◌, ◌≢◌, ◌≤◌, List, ◌∷◌, [], Ok, Err, Some, None, IfErr};
 ghost use Rattle.ir_lexer.specs.Spelling.{Spells};
 ghost use Rattle.text_layout.specs.declared.blank.TheConstants.{INDENT_LIMIT};
 ghost use Rattle.text_layout.specs.Lines as line;
+ghost use Rattle.text_layout.specs.Lines.{Mark};
 ghost use Rattle.text_layout.specs.Moment.{first_moment, Lays, Repeats, Ended};
 ghost use Rattle.text_layout.specs.OfLayout.{sink_of, moment};
 
@@ -59,6 +60,20 @@ impl<'a, S: Sink> Layout<'a, S, Page> {
         ensures same_sink { (sink_of self.new).ghost_name ≡ (sink_of self.old).ghost_name }
     {
         self.page.add_token(&mut *self.sink, class, text)
+    }
+
+    /// Stops for want of memory: for a caller that has none to make the text of a token with. The
+    /// answer is `OutOfMemory`, or the error that was answered before, as from each later call. It
+    /// writes nothing.
+    pub fn out_of_memory(&mut self) -> PrintError
+        ensures lays { (marks : List Mark) → Lays (moment S.written S.faults self.old) marks
+            (Err result) (moment S.written S.faults self.new) }
+        ensures again { Repeats (moment S.written S.faults self.old) (Err result)
+            (moment S.written S.faults self.new) }
+        ensures untouched { (sink_of self.new).now ≡ (sink_of self.old).now }
+        ensures same_sink { (sink_of self.new).ghost_name ≡ (sink_of self.old).ghost_name }
+    {
+        self.page.out_of_memory()
     }
 
     /// Sets what is asked of the gap before the next token of the line. It takes no memory.

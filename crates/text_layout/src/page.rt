@@ -1,13 +1,13 @@
 //! What a layout keeps, apart from its sink.
 
-ghost use Rattle.std.specs.Prelude.{◌≡◌, ◌≢◌, ◌≤◌, ◌∷◌, ◌++◌, [], Ok, Err, Some, None, IfOk, IfErr, OnOk, if◌then◌else◌};
+ghost use Rattle.std.specs.Prelude.{◌≡◌, ◌≢◌, ◌≤◌, ℕ, List, ◌∷◌, ◌++◌, [], Option, Ok, Err, Some, None, IfOk, IfErr, OnOk, if◌then◌else◌};
 ghost use Rattle.ir_lexer.specs.Signs.{space};
 ghost use Rattle.ir_lexer.specs.declared.lexer.TheConstants.{TEXT_LIMIT};
-ghost use Rattle.ir_lexer.specs.Spelling.{Spells};
+ghost use Rattle.ir_lexer.specs.Spelling.{Text, Spells};
 ghost use Rattle.text_layout.specs.declared.blank.TheConstants.{INDENT_LIMIT};
 ghost use Rattle.text_layout.specs.Blank.{blank_text, IsShort};
 ghost use Rattle.text_layout.specs.Flow.{Stops};
-ghost use Rattle.text_layout.specs.Lines.{token, ask, break_line, line_end, line_after, bytes_of, gap_before};
+ghost use Rattle.text_layout.specs.Lines.{Mark, token, ask, break_line, line_end, line_after, bytes_of, gap_before};
 ghost use Rattle.text_layout.specs.Moment.{Laid, Lays, Ended};
 ghost use Rattle.text_layout.specs.Page.{empty_page, moment_of};
 
@@ -91,6 +91,21 @@ impl Page {
         match self.try_token(sink, class, text) {
             Ok(()) => Ok(()),
             Err(e) => Err(self.stop(e)),
+        }
+    }
+
+    /// Stops for want of memory, where no error came before. It writes nothing.
+    #[tactic(auto, using(crate::proofs::Going::going))]
+    pub fn out_of_memory(&mut self) -> PrintError
+        ensures lays { (marks : List Mark) (written : Option Text) (faults : ℕ) →
+            Lays (moment_of self.old written faults) marks (Err result)
+            (moment_of self.new written faults) }
+        ensures again { (e : PrintError) → self.old.stopped ≡ Some e →
+            (result ≡ e) × (self.new ≡ self.old) }
+    {
+        match self.stopped {
+            Some(e) => e,
+            None => self.stop(PrintError::OutOfMemory),
         }
     }
 

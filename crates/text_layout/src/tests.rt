@@ -323,6 +323,19 @@ fn a_full_sink_has_the_first_bytes(rt: HostRuntime) -> Result<(), Fail> {
 }
 
 #[test]
+fn a_caller_without_memory_ends_a_layout(rt: HostRuntime) -> Result<(), Fail> {
+    let memory = Err(PrintError::OutOfMemory);
+    let mut sink = MemSink::new(rt.alloc(), 200)?;
+    let mut layout = Layout::new(rt.alloc(), &mut sink);
+    lay(&rt, &mut layout, "a |0")?;
+    assert_eq!(rt; layout.out_of_memory(), PrintError::OutOfMemory);
+    assert_eq!(rt; lay(&rt, &mut layout, "b"), memory);
+    assert_eq!(rt; layout.end(), memory);
+    assert_eq!(rt; sink.bytes(), "".as_bytes());
+    Ok(())
+}
+
+#[test]
 fn errors_are_called_by_their_names(rt: HostRuntime) -> Result<(), Fail> {
     for (error, name) in [
         (PrintError::WriteFault, "WriteFault"),
