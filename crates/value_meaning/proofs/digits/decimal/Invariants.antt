@@ -1,0 +1,12 @@
+use Rattle.std.proofs.Common.{◌≡◌, ◌≤◌, min, drop}
+use Rattle.grammar.specs.Looks.{decimal}
+use Rattle.value_meaning.specs.declared.digits.TheConstants.{TOO_GREAT}
+use Rattle.value_meaning.proofs.digits.decimal.Given as goal
+
+-- what is left decides the number
+abbrev pub invariant-loop-digit : goal.invariant-loop-digit
+invariant-loop-digit l = record {
+  rest : min (decimal l.n (drop l.digit-index l.digits)) TOO_GREAT
+      ≡ min (decimal 0 l.digits) TOO_GREAT;
+  within : l.n ≤ TOO_GREAT;
+}

@@ -1,0 +1,10 @@
+pub mod Spelled
+pub mod Meaning
+pub mod Faults
+pub mod AliasTable
+pub mod Gathered
+pub mod Judging
+pub mod Bases
+pub mod Keys
+pub mod Dicts
+pub mod Entered
