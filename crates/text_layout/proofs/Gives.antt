@@ -55,15 +55,32 @@ abbrev pub joined : List (List Mark) → List Mark
 joined [] = []
 joined (m ∷ ms) = m ++ joined ms
 
-module _ {X : Type 0} {Sem : X → Type 0} (Inside : (x : X) → Tokens → Sem x → Type 0)
-    (none : Bool) where
-  -- all tokens that the marks spell are such a piece
-  abbrev pub Given : {A : Type 0} → G X Sem A → List Mark → (A → Type 0) → Type 0
-  Given g ms P = Gives Inside none g ms P
+-- a row of pieces, one for each item of a list
+module _ {X : Type 0} {Sem : X → Type 0} (Inside : (x : X) → Tokens → Sem x → Type 0) (none : Bool)
+    {A B : Type 0} (g : G X Sem A) (marks : B → List Mark) (R : A → B → Type 0) where
+  -- the marks of an item are a piece, with a tree that is the item's
+  abbrev IsGiven : B → Type 0
+  IsGiven b = Gives Inside none g (marks b) (λ a. R a b)
 
+  row-given : (bs : List B) → AllByRecursion IsGiven bs → (ts : Tokens)
+      → MarksSpell (joined (map marks bs)) ts
+      → (trees : List A) × EachPiece (Within Inside none g) ts trees × AllZip R trees bs
+  row-given [] x ts s = ([], s, tt)
+  row-given (b ∷ bs) (x, xs) ts s =
+      let (front, back, e, s1, s2) = spell-both (marks b) (joined (map marks bs)) ts s in
+      let (a, d, p) = x.tree front s1 in let (more, ds, ps) = row-given bs xs back s2 in
+      (a ∷ more, (front, back, e, d, ds), (p, ps))
+
+  row-tidy : (bs : List B) → AllByRecursion IsGiven bs → Tidy (joined (map marks bs))
+  row-tidy [] x = tidy-none
+  row-tidy (b ∷ bs) (x, xs) = tidy-both (marks b) (joined (map marks bs)) x.tidy (row-tidy bs xs)
+
+-- grammars put together
+module _ {X : Type 0} {Sem : X → Type 0} {Inside : (x : X) → Tokens → Sem x → Type 0}
+    {none : Bool} where
   -- a weaker fact on the tree
   pub gives-less : {A : Type 0} {g : G X Sem A} {ms : List Mark} {P Q : A → Type 0}
-      → ((a : A) → P a → Q a) → Given g ms P → Given g ms Q
+      → ((a : A) → P a → Q a) → Gives Inside none g ms P → Gives Inside none g ms Q
   gives-less f x = record {
     tidy = x.tidy;
     tree = λ ts s. let (a, d, p) = x.tree ts s in (a, d, f a p);
@@ -71,16 +88,16 @@ module _ {X : Type 0} {Sem : X → Type 0} (Inside : (x : X) → Tokens → Sem 
 
   -- the same marks, said otherwise
   pub gives-same : {A : Type 0} {g : G X Sem A} {ms ns : List Mark} {P : A → Type 0} → ms ≡ ns
-      → Given g ms P → Given g ns P
-  gives-same {g = g} {P = P} e x = subst (λ (w : List Mark). Given g w P) e x
+      → Gives Inside none g ms P → Gives Inside none g ns P
+  gives-same {g = g} {P = P} e x = subst (λ (w : List Mark). Gives Inside none g w P) e x
 
   -- no tokens
-  pub gives-ret : {A : Type 0} {P : A → Type 0} (a : A) → P a → Given (ret a) [] P
+  pub gives-ret : {A : Type 0} {P : A → Type 0} (a : A) → P a → Gives Inside none (ret a) [] P
   gives-ret a p = record { tidy = tidy-none; tree = λ ts s. (a, (s, refl), p) }
 
   -- a question of a gap is no token
   pub gives-ask : {A : Type 0} {P : A → Type 0} {gap : Gap} (a : A) → P a
-      → Given (ret a) (ask gap ∷ []) P
+      → Gives Inside none (ret a) (ask gap ∷ []) P
   gives-ask a p = record { tidy = tidy-ask; tree = λ ts s. (a, (s, refl), p) }
 
   -- one token
@@ -89,7 +106,7 @@ module _ {X : Type 0} {Sem : X → Type 0} (Inside : (x : X) → Tokens → Sem 
       → Tidy (token class text ∷ [])
       → ((place : ℕ) → passes look (token_at class text place) ≡ true)
       → ((place : ℕ) → P (f (token_at class text place)))
-      → Given (tok begins look f) (token class text ∷ []) P
+      → Gives Inside none (tok begins look f) (token class text ∷ []) P
   gives-tok begins shallow look f class text tidy pass p = record {
     tidy = tidy;
     tree = λ ts (place, rest, e, r). let is : ts ≡ token_at class text place ∷ [] = cc in (
@@ -102,8 +119,9 @@ module _ {X : Type 0} {Sem : X → Type 0} (Inside : (x : X) → Tokens → Sem 
   -- a piece and then a piece
   pub gives-both : {A B C : Type 0} {f : B → C → A} {g : G X Sem B} {h : G X Sem C}
       {ms ns : List Mark} {P : B → Type 0} {Q : C → Type 0} {R : A → Type 0}
-      → Given g ms P → Given h ns Q → ((b : B) (c : C) → P b → Q c → R (f b c))
-      → Given (both f g h) (ms ++ ns) R
+      → Gives Inside none g ms P → Gives Inside none h ns Q
+      → ((b : B) (c : C) → P b → Q c → R (f b c))
+      → Gives Inside none (both f g h) (ms ++ ns) R
   gives-both {f = f} {ms = ms} {ns = ns} x y r = record {
     tidy = tidy-both ms ns x.tidy y.tidy;
     tree = λ ts s. let (front, back, e, s1, s2) = spell-both ms ns ts s in
@@ -112,15 +130,17 @@ module _ {X : Type 0} {Sem : X → Type 0} (Inside : (x : X) → Tokens → Sem 
   }
 
   -- a piece of the one branch of a choice, and of the other
-  pub gives-left : {A : Type 0} {g h : G X Sem A} {ms : List Mark} {P : A → Type 0} → Given g ms P
-      → Given (alt g h) ms P
+  pub gives-left : {A : Type 0} {g h : G X Sem A} {ms : List Mark} {P : A → Type 0}
+      → Gives Inside none g ms P
+      → Gives Inside none (alt g h) ms P
   gives-left x = record {
     tidy = x.tidy;
     tree = λ ts s. let (a, d, p) = x.tree ts s in (a, inl d, p);
   }
 
-  pub gives-right : {A : Type 0} {g h : G X Sem A} {ms : List Mark} {P : A → Type 0} → Given h ms P
-      → Given (alt g h) ms P
+  pub gives-right : {A : Type 0} {g h : G X Sem A} {ms : List Mark} {P : A → Type 0}
+      → Gives Inside none h ms P
+      → Gives Inside none (alt g h) ms P
   gives-right x = record {
     tidy = x.tidy;
     tree = λ ts s. let (a, d, p) = x.tree ts s in (a, inr d, p);
@@ -129,7 +149,7 @@ module _ {X : Type 0} {Sem : X → Type 0} (Inside : (x : X) → Tokens → Sem 
   -- the same pieces, with another tree
   pub gives-made : {A B : Type 0} {f : B → A} {g : G X Sem B} {ms : List Mark} {P : B → Type 0}
       {Q : A → Type 0}
-      → Given g ms P → ((b : B) → P b → Q (f b)) → Given (made f g) ms Q
+      → Gives Inside none g ms P → ((b : B) → P b → Q (f b)) → Gives Inside none (made f g) ms Q
   gives-made {f = f} x q = record {
     tidy = x.tidy;
     tree = λ ts s. let (b, d, p) = x.tree ts s in (f b, (b, d, refl), q b p);
@@ -138,7 +158,8 @@ module _ {X : Type 0} {Sem : X → Type 0} (Inside : (x : X) → Tokens → Sem 
   -- the same pieces, with their places
   pub gives-placed : {A B : Type 0} {f : ℕ → B → A} {g : G X Sem B} {ms : List Mark}
       {P : B → Type 0} {Q : A → Type 0}
-      → Given g ms P → ((place : ℕ) (b : B) → P b → Q (f place b)) → Given (placed f g) ms Q
+      → Gives Inside none g ms P → ((place : ℕ) (b : B) → P b → Q (f place b))
+      → Gives Inside none (placed f g) ms Q
   gives-placed {f = f} x q = record {
     tidy = x.tidy;
     tree = λ ts s. let (b, d, p) = x.tree ts s in
@@ -148,40 +169,20 @@ module _ {X : Type 0} {Sem : X → Type 0} (Inside : (x : X) → Tokens → Sem 
   -- a piece of a nonterminal
   pub gives-kid : {A : Type 0} {x : X} {f : Sem x → A} {ms : List Mark} {P : Sem x → Type 0}
       {Q : A → Type 0}
-      → GivesKid Inside x ms P → ((c : Sem x) → P c → Q (f c)) → Given (kid x f) ms Q
+      → GivesKid Inside x ms P → ((c : Sem x) → P c → Q (f c)) → Gives Inside none (kid x f) ms Q
   gives-kid {f = f} k q = record {
     tidy = k.tidy;
     tree = λ ts s. let (c, d, p) = k.tree ts s in (f c, (c, d, refl), q c p);
   }
 
-  -- ---- a row of pieces, one for each item of a list
-
-  module _ {A B : Type 0} (g : G X Sem A) (marks : B → List Mark) (R : A → B → Type 0) where
-    -- the marks of an item are a piece, with a tree that says it
-    abbrev pub GivenFor : B → Type 0
-    GivenFor b = Given g (marks b) (λ a. R a b)
-
-    row-given : (bs : List B) → AllByRecursion GivenFor bs → (ts : Tokens)
-        → MarksSpell (joined (map marks bs)) ts
-        → (trees : List A) × EachPiece (Within Inside none g) ts trees × AllZip R trees bs
-    row-given [] x ts s = ([], s, tt)
-    row-given (b ∷ bs) (x, xs) ts s =
-        let (front, back, e, s1, s2) = spell-both (marks b) (joined (map marks bs)) ts s in
-        let (a, d, p) = x.tree front s1 in let (more, ds, ps) = row-given bs xs back s2 in
-        (a ∷ more, (front, back, e, d, ds), (p, ps))
-
-    row-tidy : (bs : List B) → AllByRecursion GivenFor bs → Tidy (joined (map marks bs))
-    row-tidy [] x = tidy-none
-    row-tidy (b ∷ bs) (x, xs) = tidy-both (marks b) (joined (map marks bs)) x.tidy (row-tidy bs xs)
-
   -- none or more pieces
   pub gives-star : {A B C : Type 0} {f : List A → C} {g : G X Sem A} {Q : C → Type 0}
       (marks : B → List Mark) (R : A → B → Type 0) (bs : List B)
-      → AllByRecursion (GivenFor g marks R) bs
+      → AllByRecursion (λ b. Gives Inside none g (marks b) (λ a. R a b)) bs
       → ((trees : List A) → AllZip R trees bs → Q (f trees))
-      → Given (star f g) (joined (map marks bs)) Q
+      → Gives Inside none (star f g) (joined (map marks bs)) Q
   gives-star {f = f} {g = g} marks R bs x q = record {
-    tidy = row-tidy g marks R bs x;
-    tree = λ ts s. let (trees, d, p) = row-given g marks R bs x ts s in
+    tidy = row-tidy Inside none g marks R bs x;
+    tree = λ ts s. let (trees, d, p) = row-given Inside none g marks R bs x ts s in
         (f trees, (trees, d, refl), q trees p);
   }
