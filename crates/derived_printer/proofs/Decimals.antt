@@ -42,11 +42,14 @@ no-zero k lt some = go (k == 0) _ refl (below 10 lead_is_right refl k lt)
     go false true e f = absurd (cc)
     go false false e f = refl
 
-digits-append : (ds : Text) (d : ℕ) → all_digits ds ≡ true → is_digit d ≡ true → all_digits (ds ++ d ∷ []) ≡ true
+digits-append : (ds : Text) (d : ℕ) → all_digits ds ≡ true → is_digit d ≡ true
+    → all_digits (ds ++ d ∷ []) ≡ true
 digits-append [] d e f = and-both _ _ f refl
-digits-append (b ∷ ds) d e f = let k = and-true (is_digit b) _ e in and-both _ _ k.0 (digits-append ds d k.1 f)
+digits-append (b ∷ ds) d e f = let k = and-true (is_digit b) _ e in
+    and-both _ _ k.0 (digits-append ds d k.1 f)
 
-decimal-append : (k : ℕ) (ds : Text) (d : ℕ) → look.decimal k (ds ++ d ∷ []) ≡ look.decimal k ds * 10 + (d - 48)
+decimal-append : (k : ℕ) (ds : Text) (d : ℕ) → look.decimal k (ds ++ d ∷ []) ≡ look.decimal k ds *
+    10 + (d - 48)
 decimal-append k [] d = refl
 decimal-append k (b ∷ ds) d = decimal-append (k * 10 + (b - 48)) ds d
 
@@ -69,7 +72,8 @@ digits-of n small = decimal_by_steps Digits one more n small
       first = x.first;
       rest = x.rest ++ ((48 + n % 10) ∷ []);
       is = ap (λ l. l ++ ((48 + n % 10) ∷ [])) x.is;
-      all = digits-append ds (48 + n % 10) x.all (below 10 digit_is_right refl (n % 10) (omega arith));
+      all = digits-append ds (48 + n % 10) x.all
+          (below 10 digit_is_right refl (n % 10) (omega arith));
       lead = λ some. x.lead (omega arith);
       value = decimal-append 0 ds (48 + n % 10) ∙ omega (arith, x.value);
     }
@@ -77,16 +81,19 @@ digits-of n small = decimal_by_steps Digits one more n small
 -- ---- spelled
 
 pub digit-byte : (b : ℕ) → is_digit b ≡ true → Fits digit (b ∷ [])
-digit-byte b e = let k = and-true (nat_le 48 b) _ e in (b, refl, leb-true 48 b k.0, leb-true b 57 k.1)
+digit-byte b e = let k = and-true (nat_le 48 b) _ e in
+    (b, refl, leb-true 48 b k.0, leb-true b 57 k.1)
 
 -- each digit fits where one does
-pub digit-rows : (r : Spelling) → ((b : ℕ) → is_digit b ≡ true → Fits r (b ∷ [])) → (ds : Text) → all_digits ds ≡ true
+pub digit-rows : (r : Spelling) → ((b : ℕ) → is_digit b ≡ true → Fits r (b ∷ [])) → (ds : Text)
+    → all_digits ds ≡ true
     → (ps : List Text) × (ds ≡ concat ps) × EachText (Fits r) ps
 digit-rows r one [] e = ([], refl, tt)
 digit-rows r one (b ∷ ds) e = let k = and-true (is_digit b) _ e in
     let (ps, p, q) = digit-rows r one ds k.1 in ((b ∷ []) ∷ ps, ap (λ l. b ∷ l) p, (one b k.0, q))
 
-digits-fit : (ds : Text) (first : ℕ) (rest : Text) → ds ≡ first ∷ rest → all_digits ds ≡ true → Fits digits ds
+digits-fit : (ds : Text) (first : ℕ) (rest : Text) → ds ≡ first ∷ rest → all_digits ds ≡ true
+    → Fits digits ds
 digits-fit ds first rest e all =
     rw e (let k = and-true (is_digit first) _ (ap all_digits (sym e) ∙ all) in
     (first ∷ [], rest, refl, digit-byte first k.0, digit-rows digit digit-byte rest k.1))
@@ -94,7 +101,8 @@ digits-fit ds first rest e all =
 -- a decimal is an integer token
 pub decimal-spelled : (n : ℕ) → n < 2 ^ 64 → Spells c.Integer (decimal n)
 unfolding Spells
-decimal-spelled n small = let x = digits-of n small in inl (digits-fit (decimal n) x.first x.rest x.is x.all)
+decimal-spelled n small = let x = digits-of n small in
+    inl (digits-fit (decimal n) x.first x.rest x.is x.all)
 
 -- it has digits alone
 pub decimal-digits : (n : ℕ) → n < 2 ^ 64 → all_digits (decimal n) ≡ true
@@ -107,13 +115,15 @@ pub no-digit : (k : ℕ) → is_digit k ≡ false → (b : ℕ) → is_digit b �
 no-digit k f b e = go (b == k) refl
   where
     go : (q : Bool) → (b == k) ≡ q → q ≡ false
-    go true g = let m : is_digit k ≡ true = ap is_digit (sym (eqb-true b k g)) ∙ e in absurd (cc (m, f))
+    go true g = let m : is_digit k ≡ true = ap is_digit (sym (eqb-true b k g)) ∙ e in
+        absurd (cc (m, f))
     go false g = refl
 
 plain-number : (ds : Text) → all_digits ds ≡ true → number_in ds ≡ look.decimal 0 ds
 plain-number [] e = refl
 plain-number (a ∷ []) e = refl
-plain-number (a ∷ b ∷ ds) e = let k = and-true (is_digit a) _ e in let l = and-true (is_digit b) _ k.1 in
+plain-number (a ∷ b ∷ ds) e = let k = and-true (is_digit a) _ e in
+    let l = and-true (is_digit b) _ k.1 in
     rw (no-digit 120 refl b l.0) refl
 
 -- a decimal gives its number back

@@ -4,3 +4,6 @@ pub mod Words
 pub mod Dims
 pub mod Numbers
 pub mod Trees
+pub mod Nesting
+pub mod Signs
+pub mod Pieces

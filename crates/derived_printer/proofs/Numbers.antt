@@ -20,7 +20,8 @@ above-low (suc k) m h = let e : m ≤ k = leb→le m k h.le in omega (arith, e)
 under-high : (k m : ℕ) → pos m <ℤ pos k → m < k
 under-high k m h = ltb→lt m k h.lt
 
-within-half : (j : ℕ) → j ≤ 63 → (n : ℤ) → neg_ℤ (pos (2 ^ j)) ≤ℤ n → n <ℤ pos (2 ^ j) → nat_abs n < 2 ^ 64
+within-half : (j : ℕ) → j ≤ 63 → (n : ℤ) → neg_ℤ (pos (2 ^ j)) ≤ℤ n → n <ℤ pos (2 ^ j)
+    → nat_abs n < 2 ^ 64
 within-half j le (pos m) low high =
     let e : m < 2 ^ j = under-high (2 ^ j) m high in
     let p : 2 ^ j ≤ 2 ^ 63 = pow_mono le in omega (arith, e, p)
@@ -71,10 +72,12 @@ cond-true : {A : Type 0} (b : Bool) (x y : A) → b ≡ true → cond b x y ≡ 
 cond-true true x y e = refl
 cond-true false x y e = absurd (cc)
 
-kept-by : (kind : IntKind) (n : ℤ) → is_number_kind kind ≡ true → lowest kind ≤ℤ n → n <ℤ limit kind → kept kind n ≡ n → residue kind n ≡ Some n
+kept-by : (kind : IntKind) (n : ℤ) → is_number_kind kind ≡ true → lowest kind ≤ℤ n → n <ℤ limit kind
+    → kept kind n ≡ n → residue kind n ≡ Some n
 unfolding residue
 kept-by kind n w low high same =
-    cond-true _ _ _ (all-three _ _ _ w (low-test _ n low) (high-test _ n high)) ∙ ap (λ m. Some m) same
+    cond-true _ _ _ (all-three _ _ _ w (low-test _ n low) (high-test _ n high))
+    ∙ ap (λ m. Some m) same
 
 not-upper : (b : Bool) (m n : ℤ) → b ≡ false → (if b then m else n) ≡ n
 not-upper true m n e = absurd (cc)
@@ -95,5 +98,7 @@ kept-again (Unsigned w) n k = kept-by (Unsigned w) n (width-test w k.0) k.1.0 k.
 
 -- the numbers of one bit
 pub kept-bit : (n : ℤ) → IsKept (Signless 1) n → (n ≡ pos 0) ⊎ (n ≡ negsuc 0)
-kept-bit (pos m) k = let e : m < 1 = under-high 1 m k.1.1 in let z : m ≡ 0 = omega (arith, e) in inl (ap pos z)
-kept-bit (negsuc m) k = let e : suc m ≤ 1 = above-low 1 m k.1.0 in let z : m ≡ 0 = omega (arith, e) in inr (ap negsuc z)
+kept-bit (pos m) k = let e : m < 1 = under-high 1 m k.1.1 in let z : m ≡ 0 = omega (arith, e) in
+    inl (ap pos z)
+kept-bit (negsuc m) k = let e : suc m ≤ 1 = above-low 1 m k.1.0 in
+    let z : m ≡ 0 = omega (arith, e) in inr (ap negsuc z)

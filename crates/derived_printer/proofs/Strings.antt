@@ -1,7 +1,7 @@
 -- Strings, symbols, keys and names: their texts spell their classes, and give their bytes back.
 --
 -- A fact on each byte is a test of it, and 256 of them compute at once.
-use Rattle.std.proofs.Common.{◌≡◌, ℕ, ◌+◌, ◌-◌, ◌<◌, ◌≤◌, ◌/◌, ◌%◌, ◌==◌, Bool, true, false, not, ◌&&◌, ◌||◌, List, [], ◌∷◌, ◌++◌, length, take, refl, sym, ◌∙◌, ap, cond, arith, inl, inr, ◌⊎◌, length-append, append_assoc, if◌then◌else◌, codes}
+use Rattle.std.proofs.Common.{◌≡◌, ℕ, ◌+◌, ◌-◌, ◌<◌, ◌≤◌, ◌/◌, ◌%◌, ◌==◌, Bool, true, false, not, ◌&&◌, ◌||◌, List, [], ◌∷◌, ◌++◌, length, take, refl, sym, ◌∙◌, ap, cond, arith, inl, inr, ◌⊎◌, length-append, append_assoc, if◌then◌else◌, codes, nat_le}
 use Rattle.std.proofs.Math.Seq.{take-append_seam}
 use Rattle.std.proofs.lemmas.Bool.{eqb-true, leb-true}
 use Rattle.std.specs.List.{AllByRecursion, concat}
@@ -127,7 +127,7 @@ byte-fits r p all b lt e =
 
 -- what may stand in a bare id is a byte
 between-small : (low high b : ℕ) → high < 256 → is_between low high b ≡ true → b < 256
-between-small low high b lt e = let h : b ≤ high = leb-true b high (and-true _ _ e).1 in
+between-small low high b lt e = let h : b ≤ high = leb-true b high (and-true (nat_le low b) (nat_le b high) e).1 in
     omega (arith, lt, h)
 
 same-small : (b k : ℕ) → k < 256 → (b == k) ≡ true → b < 256

@@ -42,8 +42,11 @@ width-is w ds x k = go ds x.first x.rest x.is x.all (x.lead k.0) x.value
     negated true e = absurd (cc)
     negated false e = refl
 
-    go : (ds : Text) (first : ℕ) (rest : Text) → ds ≡ first ∷ rest → all_digits ds ≡ true → (first == 48) ≡ false → look.decimal 0 ds ≡ w → is_width ds ≡ true
-    go ds first rest e all lead value = rw e (and-both (not (first == 48)) _ (negated _ lead) (and-both _ _ (ap all_digits (sym e) ∙ all)
+    go : (ds : Text) (first : ℕ) (rest : Text) → ds ≡ first ∷ rest → all_digits ds ≡ true
+        → (first == 48) ≡ false → look.decimal 0 ds ≡ w → is_width ds ≡ true
+    go ds first rest e all lead value =
+        rw e (and-both (not (first == 48)) _ (negated _ lead)
+        (and-both _ _ (ap all_digits (sym e) ∙ all)
         (le-leb _ 16777215 (omega (arith, k.1, ap (look.decimal 0) (sym e) ∙ value)))))
 
 -- the first byte of a word, and each byte behind it
@@ -56,10 +59,12 @@ word_mark = either letter (either digit (one_of (codes "_$.")))
 digit-mark : (b : ℕ) → is_digit b ≡ true → Fits word_mark (b ∷ [])
 digit-mark b e = inr (inl (digit-byte b e))
 
-one-before : (first : ℕ) (ds : Text) → Fits word_first (first ∷ []) → all_digits ds ≡ true → Fits bare_id (first ∷ ds)
+one-before : (first : ℕ) (ds : Text) → Fits word_first (first ∷ []) → all_digits ds ≡ true
+    → Fits bare_id (first ∷ ds)
 one-before first ds one all = (first ∷ [], ds, refl, one, digit-rows word_mark digit-mark ds all)
 
-two-before : (first next : ℕ) (ds : Text) → Fits word_first (first ∷ []) → Fits word_mark (next ∷ []) → all_digits ds ≡ true → Fits bare_id (first ∷ next ∷ ds)
+two-before : (first next : ℕ) (ds : Text) → Fits word_first (first ∷ [])
+    → Fits word_mark (next ∷ []) → all_digits ds ≡ true → Fits bare_id (first ∷ next ∷ ds)
 two-before first next ds one two all = let (ps, p, q) = digit-rows word_mark digit-mark ds all in
     (first ∷ [], next ∷ ds, refl, one, ((next ∷ []) ∷ ps, ap (λ l. next ∷ l) p, (two, q)))
 
@@ -71,7 +76,8 @@ cond-true : {A : Type 0} (b : Bool) (x y : A) → b ≡ true → cond b x y ≡ 
 cond-true true x y e = refl
 cond-true false x y e = absurd (cc)
 
-int-word-is : (w : Text) (kind : IntKind) → Spells c.Word w → is_integer_word w ≡ true → int_kind_of w ≡ kind → IsTypeWord w (h.Int kind)
+int-word-is : (w : Text) (kind : IntKind) → Spells c.Word w → is_integer_word w ≡ true
+    → int_kind_of w ≡ kind → IsTypeWord w (h.Int kind)
 unfolding word_head
 int-word-is w kind s e k = record {
   spelled = s;
@@ -85,21 +91,24 @@ width-small w k = omega (arith, k.1)
 signless-word : (w : ℕ) → IsTypeWidth w → IsTypeWord (105 ∷ decimal w) (h.Int (Signless w))
 unfolding Spells
 signless-word w k = let x = digits-of w (width-small w k) in
-    int-word-is (105 ∷ decimal w) (Signless w) (one-before 105 (decimal w) (fits-by (105 ∷ []) word_first refl) x.all)
+    int-word-is (105 ∷ decimal w) (Signless w)
+    (one-before 105 (decimal w) (fits-by (105 ∷ []) word_first refl) x.all)
     (or-left _ _ (width-is w (decimal w) x k)) (ap Signless x.value)
 
 signed-word : (w : ℕ) → IsTypeWidth w → IsTypeWord (115 ∷ 105 ∷ decimal w) (h.Int (Signed w))
 unfolding Spells
 signed-word w k = let x = digits-of w (width-small w k) in
     int-word-is (115 ∷ 105 ∷ decimal w) (Signed w)
-    (two-before 115 105 (decimal w) (fits-by (115 ∷ []) word_first refl) (fits-by (105 ∷ []) word_mark refl) x.all)
+    (two-before 115 105 (decimal w) (fits-by (115 ∷ []) word_first refl)
+    (fits-by (105 ∷ []) word_mark refl) x.all)
     (or-left _ _ (width-is w (decimal w) x k)) (ap Signed x.value)
 
 unsigned-word : (w : ℕ) → IsTypeWidth w → IsTypeWord (117 ∷ 105 ∷ decimal w) (h.Int (Unsigned w))
 unfolding Spells
 unsigned-word w k = let x = digits-of w (width-small w k) in
     int-word-is (117 ∷ 105 ∷ decimal w) (Unsigned w)
-    (two-before 117 105 (decimal w) (fits-by (117 ∷ []) word_first refl) (fits-by (105 ∷ []) word_mark refl) x.all)
+    (two-before 117 105 (decimal w) (fits-by (117 ∷ []) word_first refl)
+    (fits-by (105 ∷ []) word_mark refl) x.all)
     (width-is w (decimal w) x k) (ap Unsigned x.value)
 
 -- the name of an integer type is a word that is this type
