@@ -7,3 +7,5 @@ pub mod Trees
 pub mod Nesting
 pub mod Signs
 pub mod Pieces
+pub mod Kids
+pub mod Readable
