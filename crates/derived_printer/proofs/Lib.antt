@@ -9,3 +9,4 @@ pub mod Signs
 pub mod Pieces
 pub mod Kids
 pub mod Readable
+pub mod Types
