@@ -10,3 +10,5 @@ pub mod Pieces
 pub mod Kids
 pub mod Readable
 pub mod Types
+pub mod Attributes
+pub mod Numerals

@@ -17,7 +17,7 @@ use Rattle.text_layout.specs.Tidy.{begins_alone, ends_alone, Tidy}
 use Rattle.text_layout.proofs.Gives.{token_at, joined, gives-ret, gives-tok, gives-both, gives-left, gives-right, gives-star, gives-same}
 use Rattle.text_layout.proofs.Tidy.{tidy-token}
 use Rattle.derived_printer.specs.ValueMarks.{Marks, sign_text, a_sign, a_word, behind_signs, commas}
-use Rattle.derived_printer.proofs.Strings.{fits-by}
+use Rattle.derived_printer.proofs.Strings.{spells-by}
 
 -- a token of a class passes the look for it
 pub pass-any : (class : Class) (text : Text) (place : ℕ)
@@ -34,10 +34,9 @@ stands_alone class =
     && (not (is_float_class class) && (begins_alone class && ends_alone class))
 
 sign-tidy : (class : Class) → stands_alone class ≡ true → Tidy (a_sign class)
-unfolding Spells
 sign-tidy class e = let h = and-true (takes_none (behind_all (sign_text class) (spelling class))) _
     e in
-    tidy-token class (sign_text class) (fits-by (sign_text class) (spelling class) h.0) h.1
+    tidy-token class (sign_text class) (spells-by class (sign_text class) h.0) h.1
 
 -- the marks of a list with commas are those of each behind one
 same-commas : {B : Type 0} (marks : B → Marks) (bs : List B)

@@ -7,10 +7,11 @@ use Rattle.std.proofs.lemmas.Bool.{eqb-true, leb-true}
 use Rattle.std.specs.List.{AllByRecursion, concat}
 use Rattle.grammar.specs.Looks.{has_dot}
 use Rattle.grammar.proofs.Meet.{and-true, or-true, not-true, not-or}
+use Rattle.ir_lexer.specs.declared.class.Class.{Class}
 use Rattle.ir_lexer.specs.declared.class.Class.TheVariants as c
 use Rattle.ir_lexer.specs.Names.{is_between, items_bytes, literal_bytes, name_bytes, two_digits, is_short_escape}
 use Rattle.ir_lexer.specs.Signs.{quote, backslash}
-use Rattle.ir_lexer.specs.Spelling.{Text, Spelling, Fits, EachText, Spells, both, either, many, exactly, plain_byte, escape, string, mark, digit, letter, suffix_id, bare_id, one_of, name}
+use Rattle.ir_lexer.specs.Spelling.{Text, Spelling, Fits, EachText, Spells, both, either, many, exactly, plain_byte, escape, string, mark, digit, letter, suffix_id, bare_id, one_of, name, spelling}
 use Rattle.ir_lexer.proofs.Derive.{behind_all, takes_none, none-in, behind, behind-out}
 use Rattle.ir_lexer.proofs.Machine.{upto, below}
 use Rattle.derived_printer.specs.Spelling.{is_shown, hex_digit, escaped_byte, escaped, string_text, symbol_text, is_bare_start, is_bare_byte, goes_on_bare, is_bare, key_class, key_text, name_class, name_sign, name_text}
@@ -20,6 +21,12 @@ use Rattle.derived_printer.specs.Spellable.{AreBytes, IsFullName}
 pub fits-by : (t : Text) (r : Spelling) → takes_none (behind_all t r) ≡ true → Fits r t
 fits-by [] r e = none-in r e
 fits-by (b ∷ t) r e = behind-out r b t (fits-by t _ e)
+
+-- a text spells a class, by the same test
+pub spells-by : (class : Class) (t : Text) → takes_none (behind_all t (spelling class)) ≡ true
+    → Spells class t
+unfolding Spells
+spells-by class t e = fits-by t (spelling class) e
 
 -- ---- one byte of a string
 
@@ -127,7 +134,8 @@ byte-fits r p all b lt e =
 
 -- what may stand in a bare id is a byte
 between-small : (low high b : ℕ) → high < 256 → is_between low high b ≡ true → b < 256
-between-small low high b lt e = let h : b ≤ high = leb-true b high (and-true (nat_le low b) (nat_le b high) e).1 in
+between-small low high b lt e =
+    let h : b ≤ high = leb-true b high (and-true (nat_le low b) (nat_le b high) e).1 in
     omega (arith, lt, h)
 
 same-small : (b k : ℕ) → k < 256 → (b == k) ≡ true → b < 256

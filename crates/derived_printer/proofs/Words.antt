@@ -20,7 +20,7 @@ use Rattle.ir_lexer.proofs.Derive.{behind_all, takes_none, and-both}
 use Rattle.value_meaning.specs.Spelled.{word_head, int_kind_of}
 use Rattle.derived_printer.specs.Spelling.{int_text, float_text, shape_text, truth_text}
 use Rattle.derived_printer.proofs.Decimals.{is_digit, Digits, digits-of, digit-byte, digit-rows}
-use Rattle.derived_printer.proofs.Strings.{fits-by}
+use Rattle.derived_printer.proofs.Strings.{fits-by, spells-by}
 
 -- A word that is a type, by its head.
 pub record IsTypeWord (w : Text) (head : Head) : Type 0 where
@@ -30,8 +30,7 @@ pub record IsTypeWord (w : Text) (head : Head) : Type 0 where
 
 -- a fixed word, by a test that computes
 pub fixed-word : (w : Text) → takes_none (behind_all w bare_id) ≡ true → Spells c.Word w
-unfolding Spells
-fixed-word w e = fits-by w bare_id e
+fixed-word w e = spells-by c.Word w e
 
 -- ---- the names of integer types
 
