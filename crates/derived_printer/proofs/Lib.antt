@@ -12,3 +12,5 @@ pub mod Readable
 pub mod Types
 pub mod Attributes
 pub mod Numerals
+pub mod Dicts
+pub mod Heads
