@@ -1,9 +1,9 @@
 -- Strings, arrays, symbols, and types and attributes of dialects are read as they are written.
-use Rattle.std.proofs.Common.{◌≡◌, ℕ, suc, ◌==◌, Bool, true, false, ◌&&◌, List, [], ◌∷◌, ◌++◌, map, refl, ◌∙◌, ap, Some, option_map, codes, inl}
+use Rattle.std.proofs.Common.{◌≡◌, ℕ, suc, ◌==◌, Bool, true, false, List, [], ◌∷◌, ◌++◌, map, refl, ◌∙◌, ap, Some, option_map, codes}
 use Rattle.std.specs.List.{AllByRecursion, AllZip}
 use Rattle.attr_value.specs.declared.head.Head.{Head}
 use Rattle.attr_value.specs.declared.head.Head.TheVariants as h
-use Rattle.attr_value.specs.Values.{Value, Values, none, more, value, list_of}
+use Rattle.attr_value.specs.Values.{Values, none, more, value, list_of}
 use Rattle.generic_syntax.specs.declared.cst.ValueNode.TheVariants as node
 use Rattle.generic_syntax.specs.Values.{◌then◌}
 use Rattle.generic_syntax.specs.Values as syntax
@@ -59,8 +59,13 @@ parts-last (n ∷ ns) = parts-last ns
 symbol-tidy : (n : Text) (ns : List Text) → AllByRecursion AreBytes (n ∷ ns)
     → Tidy (symbol_marks (n ∷ ns))
 symbol-tidy n ns (x, all) =
-    record { spelled = (symbol-spelled n x, parts-spelled ns all); apart = parts-apart ns; first =
-    refl; last = parts-last ns }
+    record {
+      spelled = (symbol-spelled n x, parts-spelled ns all);
+      apart = parts-apart ns;
+      first =
+          refl;
+      last = parts-last ns;
+    }
 
 module _ (al : Aliases) (room : ℕ) where
   -- ---- words, strings, arrays
@@ -111,12 +116,26 @@ module _ (al : Aliases) (room : ℕ) where
       let (ms, d, q) = parts-within ns all r2 s in
       let is : ts ≡ (t1 ∷ t2 ∷ []) ++ r2 = cc in
       let m : name_bytes (symbol_text n) ≡ n = symbol-back n x in
-      let l : name_bytes (symbol_text n) ∷ ms ≡ n ∷ ns = cc in
-      (name_bytes (symbol_text n) ∷ ms,
-      (t1 ∷ t2 ∷ [], r2, is,
-      (t1 ∷ [], t2 ∷ [], tt, name_bytes (symbol_text n), refl,
-      (t1, refl, pass-any c.ColonColon (codes "::") p1, refl, refl),
-      (t2, refl, pass-any c.SymbolName (symbol_text n) p2, refl, refl), refl), d), l)
+      let l : name_bytes (symbol_text n) ∷ ms ≡ n ∷ ns = cc in (
+        name_bytes (symbol_text n) ∷ ms,
+        (
+          t1 ∷ t2 ∷ [],
+          r2,
+          is,
+          (
+            t1 ∷ [],
+            t2 ∷ [],
+            tt,
+            name_bytes (symbol_text n),
+            refl,
+            (t1, refl, pass-any c.ColonColon (codes "::") p1, refl, refl),
+            (t2, refl, pass-any c.SymbolName (symbol_text n) p2, refl, refl),
+            refl,
+          ),
+          d,
+        ),
+        l,
+      )
 
   symbol-given : (n : Text) (ns : List Text) → AllByRecursion AreBytes (n ∷ ns)
       → GivesAt room syntax.symbol (symbol_marks (n ∷ ns)) (FormHas al (leaf (h.Symbol (n ∷ ns))))
@@ -126,11 +145,20 @@ module _ (al : Aliases) (room : ℕ) where
         let (ms, d, q) = parts-within ns all r s2 in
         let is : ts ≡ (t ∷ []) ++ r = cc in
         let m : name_bytes (symbol_text n) ≡ n = symbol-back n x in
-        let l : name_bytes (symbol_text n) ∷ ms ≡ n ∷ ns = cc in
-        (node.Symbol (name_bytes (symbol_text n) ∷ ms),
-        (t ∷ [], r, name_bytes (symbol_text n), ms, is,
-        (t, refl, pass-any c.SymbolName (symbol_text n) p, refl, refl), (ms, d, refl), refl),
-        of-symbol al (name_bytes (symbol_text n) ∷ ms) ∙ ap (λ w. Some (leaf (h.Symbol w))) l);
+        let l : name_bytes (symbol_text n) ∷ ms ≡ n ∷ ns = cc in (
+          node.Symbol (name_bytes (symbol_text n) ∷ ms),
+          (
+            t ∷ [],
+            r,
+            name_bytes (symbol_text n),
+            ms,
+            is,
+            (t, refl, pass-any c.SymbolName (symbol_text n) p, refl, refl),
+            (ms, d, refl),
+            refl,
+          ),
+          of-symbol al (name_bytes (symbol_text n) ∷ ms) ∙ ap (λ w. Some (leaf (h.Symbol w))) l,
+        );
   }
 
   pub symbol-readable : (n : Text) (ns : List Text) → AllByRecursion AreBytes (n ∷ ns)

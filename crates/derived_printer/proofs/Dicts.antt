@@ -1,7 +1,7 @@
 -- Dictionaries are read as they are written.
 --
 -- A key alone stands for the unit attribute, and so is a value one deeper.
-use Rattle.std.proofs.Common.{◌≡◌, ℕ, suc, ◌+◌, ◌<◌, ◌≤◌, ◌==◌, Bool, true, false, List, [], ◌∷◌, ◌++◌, length, map, refl, sym, ◌∙◌, ap, subst, Option, Some, None, cond, option_map, option_and_then, inl, inr, ◌⊎◌, arith}
+use Rattle.std.proofs.Common.{◌≡◌, ℕ, suc, ◌<◌, ◌≤◌, ◌==◌, Bool, true, false, List, [], ◌∷◌, ◌++◌, length, map, refl, sym, ◌∙◌, ap, subst, Option, Some, None, cond, option_map, option_and_then, inl, inr, ◌⊎◌, arith}
 use Rattle.std.proofs.lemmas.Bool.{eqb-true}
 use Rattle.std.proofs.lemmas.Slice.Zip.{firsts-zip}
 use Rattle.std.specs.List.{AllByRecursion, AllZip, zip}
@@ -27,7 +27,7 @@ use Rattle.derived_printer.specs.ValueMarks.{a_sign, commas, in_braces, is_unit_
 use Rattle.derived_printer.proofs.Kids.{shown_kid, keyed-marks, dict-of-zip, sorted-ascend}
 use Rattle.derived_printer.proofs.Nesting.{within}
 use Rattle.derived_printer.proofs.Pieces.{given-braces}
-use Rattle.derived_printer.proofs.Readable.{GivesAt, HasValue, FormHas, Readable, attr-readable, attr-given}
+use Rattle.derived_printer.proofs.Readable.{GivesAt, HasValue, Readable, attr-readable, attr-given}
 use Rattle.derived_printer.proofs.Signs.{pass-any, given-sign, given-before, given-list}
 use Rattle.derived_printer.proofs.Strings.{string-spelled, string-back, bare-spelled}
 use Rattle.derived_printer.proofs.Trees.{of-dict, of-entry, of-key}

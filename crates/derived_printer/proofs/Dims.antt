@@ -1,5 +1,5 @@
 -- Dimensions: their text spells its class, and gives them back.
-use Rattle.std.proofs.Common.{◌≡◌, ℕ, suc, ◌<◌, ◌≤◌, ◌^◌, ◌==◌, Bool, true, false, ◌&&◌, List, [], ◌∷◌, ◌++◌, map, refl, sym, ◌∙◌, ap, arith, inl, inr, if◌then◌else◌, nat_le, nat_lt, codes, decimal, Some, None, append_assoc, append-nil}
+use Rattle.std.proofs.Common.{◌≡◌, ℕ, suc, ◌<◌, ◌≤◌, ◌^◌, ◌==◌, true, false, ◌&&◌, List, [], ◌∷◌, ◌++◌, map, refl, sym, ◌∙◌, ap, arith, inl, inr, if◌then◌else◌, nat_le, nat_lt, codes, decimal, Some, None, append_assoc, append-nil}
 use Rattle.std.proofs.lemmas.Bool.{eqb-false, leb-true, le-leb}
 use Rattle.std.specs.List.{AllByRecursion, concat}
 use Rattle.attr_value.specs.declared.kind.Dim.{Dim}
@@ -13,7 +13,7 @@ use Rattle.grammar.specs.Looks.{all_digits}
 use Rattle.grammar.proofs.Meet.{and-true}
 use Rattle.ir_lexer.specs.declared.class.Class.TheVariants as c
 use Rattle.ir_lexer.specs.Spelling.{Text, Spelling, Fits, EachText, Spells, both, either, many, digit, exactly, range}
-use Rattle.value_meaning.specs.Spelled.{all_some, dim_of, may_be_unknown}
+use Rattle.value_meaning.specs.Spelled.{all_some, dim_of}
 use Rattle.derived_printer.specs.Spelling.{dim_text, dims_text}
 use Rattle.derived_printer.proofs.Decimals.{is_digit, Digits, digits-of, digit-byte, digit-rows, no-digit}
 
@@ -38,15 +38,23 @@ known-fits n some less = let x = digits-of n (omega (arith, less)) in
         let l = and-true (nat_le 48 first) _ k.0 in
         let low = above-zero first lead (leb-true 48 first l.0) in
         let one : Fits (range (codes "19"))
-        (first ∷ []) = (first, refl, low, leb-true first 57 l.1) in
-        (ds, 120 ∷ [], refl, inr (first ∷ [], rest, e, one, digit-rows digit digit-byte rest k.1),
-        (120, refl, omega arith, omega arith))
+        (first ∷ []) = (first, refl, low, leb-true first 57 l.1) in (
+          ds,
+          120 ∷ [],
+          refl,
+          inr (first ∷ [], rest, e, one, digit-rows digit digit-byte rest k.1),
+          (120, refl, omega arith, omega arith),
+        )
 
 dim-fits : (kind : ShapeKind) (d : Dim) → IsDim kind d → Fits one_dim (dim_text d)
 dim-fits kind (Known n) k = known-fits n k.0 k.1
-dim-fits kind Unknown k =
-    (63 ∷ [], 120 ∷ [], refl, inl (63, refl, omega arith, omega arith),
-    (120, refl, omega arith, omega arith))
+dim-fits kind Unknown k = (
+  63 ∷ [],
+  120 ∷ [],
+  refl,
+  inl (63, refl, omega arith, omega arith),
+  (120, refl, omega arith, omega arith),
+)
 
 dim-rows : (kind : ShapeKind) (ds : List Dim) → AllByRecursion (IsDim kind) ds → (ps : List Text)
     × (dims_text ds ≡ concat ps) × EachText (Fits one_dim) ps

@@ -1,5 +1,5 @@
 -- What is written of a value is read as it, whatever its head: by recursion over values.
-use Rattle.std.proofs.Common.{◌≡◌, ℕ, zero, suc, ◌+◌, ◌≤◌, List, [], ◌∷◌, length, refl, sym, subst, arith, codes}
+use Rattle.std.proofs.Common.{◌≡◌, ℕ, zero, suc, ◌≤◌, [], ◌∷◌, length, refl, sym, subst, arith, codes}
 use Rattle.std.specs.List.{AllByRecursion}
 use Rattle.attr_value.specs.declared.head.Head.{Head}
 use Rattle.attr_value.specs.declared.head.Head.TheVariants as h
@@ -72,7 +72,7 @@ module _ (al : Aliases) where
   each-readable zero (more head kids rest) d r s = absurd (omega (arith, d))
   each-readable (suc room) (more head kids rest) d r s = (
     node-readable room head kids (omega (arith, d)) r.0 s.0
-    (each-readable room kids (omega (arith, d)) r.1 s.1),
+        (each-readable room kids (omega (arith, d)) r.1 s.1),
     each-readable (suc room) rest (omega (arith, d)) r.2 s.2,
   )
 

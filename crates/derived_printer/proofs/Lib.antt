@@ -14,3 +14,4 @@ pub mod Attributes
 pub mod Numerals
 pub mod Dicts
 pub mod Heads
+pub mod RoundTrip

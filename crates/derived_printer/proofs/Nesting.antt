@@ -29,9 +29,9 @@ pub within-value : (n : ℕ) (x : Sort) (ts : Tokens) (v : ValueCst) → within 
 within-value zero x ts v w = absurd w
 within-value (suc n) x ts v w = (
   fold x ts v (within-derived (within n) IsValue (λ y us c d. (within-value n y us c d).0) (n == 0)
-  (rule x) ts v w),
+      (rule x) ts v w),
   within-shallow (within n) IsValue (by_looks value_looks) kids samples begun (deep n) (deep-some n)
-  (deep-seen n) (n == 0)
+      (deep-seen n) (n == 0)
       (λ y us c d. (within-value n y us c d).0) (λ y us c d. (within-value n y us c d).1) (rule x)
       (one-token x) ts v w,
 )

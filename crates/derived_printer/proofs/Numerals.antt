@@ -1,5 +1,5 @@
 -- Numbers, truth values and dense arrays are read as they are written.
-use Rattle.std.proofs.Common.{◌≡◌, ℕ, suc, ◌<◌, ◌^◌, ◌==◌, Bool, true, false, ◌||◌, List, [], ◌∷◌, ◌++◌, map, refl, sym, ◌∙◌, ap, subst, Option, Some, None, cond, option_map, codes, inl, inr, ◌⊎◌, arith, ℤ, pos, negsuc, neg_ℤ, nat_abs, bytes_eq, decimal}
+use Rattle.std.proofs.Common.{◌≡◌, ℕ, suc, ◌<◌, ◌^◌, ◌==◌, Bool, true, false, List, [], ◌∷◌, ◌++◌, map, refl, sym, ◌∙◌, ap, subst, Option, Some, None, cond, option_map, codes, inl, inr, ◌⊎◌, arith, ℤ, pos, negsuc, neg_ℤ, nat_abs, bytes_eq, decimal}
 use Rattle.std.proofs.lemmas.Bool.{eqb-true}
 use Rattle.std.proofs.lemmas.Slice.Eq.{bytes_eq-Decides}
 use Rattle.std.specs.Fmt.{digits}
@@ -9,14 +9,13 @@ use Rattle.attr_value.specs.declared.kind.IntKind.{IntKind}
 use Rattle.attr_value.specs.declared.kind.IntKind.TheVariants.{Index, Signless, Signed, Unsigned}
 use Rattle.attr_value.specs.Heads.{IsDenseWidth, IsIntType, IsTypeWidth}
 use Rattle.attr_value.specs.Numbers.{IsKept}
-use Rattle.attr_value.specs.Values.{Value}
 use Rattle.generic_syntax.specs.declared.cst.ItemCst.{ItemCst}
 use Rattle.generic_syntax.specs.declared.cst.ValueCst.{ValueCst}
 use Rattle.generic_syntax.specs.declared.cst.ValueNode.TheVariants as node
 use Rattle.generic_syntax.specs.Values as syntax
 use Rattle.grammar.specs.Looks.{any_of, all_digits, is_among}
 use Rattle.ir_lexer.specs.declared.class.Class.TheVariants as c
-use Rattle.ir_lexer.specs.Spelling.{Text, Spells}
+use Rattle.ir_lexer.specs.Spelling.{Text}
 use Rattle.text_layout.proofs.Gives.{token_at, gives-ret, gives-tok, gives-both, gives-left, gives-right, gives-made, gives-placed, gives-same}
 use Rattle.text_layout.proofs.Tidy.{tidy-token}
 use Rattle.value_meaning.specs.Meaning.{Aliases, leaf}
@@ -28,7 +27,7 @@ use Rattle.derived_printer.proofs.Decimals.{decimal-spelled, decimal-digits, dec
 use Rattle.derived_printer.proofs.Numbers.{kept-small, kept-again, kept-bit, number-width}
 use Rattle.derived_printer.proofs.Pieces.{given-angles, given-one-of}
 use Rattle.derived_printer.proofs.Readable.{GivesAt, HasValue, FormHas, Readable, attr-readable, form-placed}
-use Rattle.derived_printer.proofs.Signs.{pass-any, given-sign, given-word, given-before, given-list, given-some}
+use Rattle.derived_printer.proofs.Signs.{pass-any, given-sign, given-word, given-before, given-some}
 use Rattle.derived_printer.proofs.Strings.{spells-by}
 use Rattle.derived_printer.proofs.Nesting.{within}
 use Rattle.derived_printer.proofs.Trees.{node_value, of-number, of-dense}
@@ -64,17 +63,28 @@ module _ (al : Aliases) (room : ℕ) where
       (λ place. pass-any c.Integer (decimal n) place) (λ place. refl))
       (λ b w p q. rw (p, q) (ap pos (decimal-back n small), decimal-digits n small))
   signed-given (negsuc n) small = record {
-    tidy = record
-        { spelled = (spells-by c.Minus (codes "-") refl, (decimal-spelled (suc n) small, tt));
-        apart = refl; first = refl; last = refl };
+    tidy = record {
+      spelled = (spells-by c.Minus (codes "-") refl, (decimal-spelled (suc n) small, tt));
+      apart = refl;
+      first = refl;
+      last = refl;
+    };
     tree = λ ts (p1, r1, e1, (p2, r2, e2, e3)). let t1 = token_at c.Minus (codes "-") p1 in
         let t2 = token_at c.Integer (decimal (suc n)) p2 in
-        let is : ts ≡ (t1 ∷ []) ++ (t2 ∷ []) = cc in
-        ((true, decimal (suc n)),
-        (t1 ∷ [], t2 ∷ [], true, decimal (suc n), is,
-        inl (tt, (t1, refl, pass-any c.Minus (codes "-") p1, refl, refl), refl),
-        (t2, refl, pass-any c.Integer (decimal (suc n)) p2, refl, refl), refl),
-        (ap (λ k. neg_ℤ (pos k)) (decimal-back (suc n) small), decimal-digits (suc n) small));
+        let is : ts ≡ (t1 ∷ []) ++ (t2 ∷ []) = cc in (
+          (true, decimal (suc n)),
+          (
+            t1 ∷ [],
+            t2 ∷ [],
+            true,
+            decimal (suc n),
+            is,
+            inl (tt, (t1, refl, pass-any c.Minus (codes "-") p1, refl, refl), refl),
+            (t2, refl, pass-any c.Integer (decimal (suc n)) p2, refl, refl),
+            refl,
+          ),
+          (ap (λ k. neg_ℤ (pos k)) (decimal-back (suc n) small), decimal-digits (suc n) small),
+        );
   }
 
   -- ---- numbers with their type

@@ -1,5 +1,5 @@
 -- Brackets and words, as pieces of the grammar of values.
-use Rattle.std.proofs.Common.{◌≡◌, ℕ, Bool, true, false, ◌&&◌, ◌||◌, List, [], ◌∷◌, refl, bytes_eq, codes}
+use Rattle.std.proofs.Common.{◌≡◌, Bool, true, false, ◌&&◌, ◌||◌, List, [], ◌∷◌, refl, bytes_eq, codes}
 use Rattle.generic_syntax.specs.declared.cst.ValueCst.{ValueCst}
 use Rattle.generic_syntax.specs.Values.{Sort, OfValues, one_of, type_words, type_word}
 use Rattle.generic_syntax.specs.Values as syntax

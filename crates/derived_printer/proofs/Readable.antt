@@ -2,7 +2,7 @@
 --
 -- A value is read where a type is asked, where one without parentheses is, and where an attribute
 -- is. A head shows one fact, of one branch of the grammar, and the three follow.
-use Rattle.std.proofs.Common.{◌≡◌, ℕ, suc, Bool, true, false, ◌==◌, List, [], ◌∷◌, ◌++◌, length, map, refl, ◌∙◌, ap, Some, Option, option_map}
+use Rattle.std.proofs.Common.{◌≡◌, ℕ, suc, true, false, ◌==◌, List, [], ◌∷◌, ◌++◌, length, map, refl, ◌∙◌, ap, Some, Option, option_map}
 use Rattle.std.specs.List.{AllByRecursion, AllZip}
 use Rattle.attr_value.specs.declared.head.Head.{Head}
 use Rattle.attr_value.specs.declared.head.Head.TheVariants as h
@@ -16,7 +16,8 @@ use Rattle.grammar.specs.Grammar.{placed}
 use Rattle.grammar.specs.Rules.{list}
 use Rattle.text_layout.specs.Gives.{Gives, GivesKid}
 use Rattle.text_layout.proofs.Gives.{gives-left, gives-right, gives-placed, gives-kid}
-use Rattle.value_meaning.specs.Meaning.{Aliases, seen, value_of, values_of, leaf, kids_of, made_of}
+use Rattle.value_meaning.specs.Meaning.{Aliases, seen, value_of, values_of, leaf, made_of}
+use Rattle.derived_printer.specs.ReadBack.{is_function}
 use Rattle.derived_printer.specs.ValueMarks.{Marks, commas, is_unit_head, value_marks}
 use Rattle.derived_printer.proofs.Kids.{kids-of-list}
 use Rattle.derived_printer.proofs.Nesting.{within}
@@ -26,11 +27,6 @@ use Rattle.derived_printer.proofs.Trees.{node_value, of-at}
 -- a piece of the grammar of values, in which values may nest so deep
 abbrev pub GivesAt : {A : Type 0} → ℕ → OfValues A → Marks → (A → Type 0) → Type 0
 GivesAt room g ms P = Gives (within room) (room == 0) g ms P
-
--- the head is that of function types
-abbrev pub is_function : Head → Bool
-is_function (h.Function n) = true
-is_function _ = false
 
 module _ (al : Aliases) where
   -- the tree has the value

@@ -1,17 +1,17 @@
 -- Strings, symbols, keys and names: their texts spell their classes, and give their bytes back.
 --
 -- A fact on each byte is a test of it, and 256 of them compute at once.
-use Rattle.std.proofs.Common.{◌≡◌, ℕ, ◌+◌, ◌-◌, ◌<◌, ◌≤◌, ◌/◌, ◌%◌, ◌==◌, Bool, true, false, not, ◌&&◌, ◌||◌, List, [], ◌∷◌, ◌++◌, length, take, refl, sym, ◌∙◌, ap, cond, arith, inl, inr, ◌⊎◌, length-append, append_assoc, if◌then◌else◌, codes, nat_le}
+use Rattle.std.proofs.Common.{◌≡◌, ℕ, ◌-◌, ◌<◌, ◌≤◌, ◌/◌, ◌%◌, ◌==◌, Bool, true, false, not, ◌&&◌, ◌||◌, List, [], ◌∷◌, ◌++◌, length, take, refl, sym, ◌∙◌, ap, cond, arith, inl, inr, ◌⊎◌, length-append, if◌then◌else◌, codes, nat_le}
 use Rattle.std.proofs.Math.Seq.{take-append_seam}
 use Rattle.std.proofs.lemmas.Bool.{eqb-true, leb-true}
-use Rattle.std.specs.List.{AllByRecursion, concat}
+use Rattle.std.specs.List.{concat}
 use Rattle.grammar.specs.Looks.{has_dot}
 use Rattle.grammar.proofs.Meet.{and-true, or-true, not-true, not-or}
 use Rattle.ir_lexer.specs.declared.class.Class.{Class}
 use Rattle.ir_lexer.specs.declared.class.Class.TheVariants as c
 use Rattle.ir_lexer.specs.Names.{is_between, items_bytes, literal_bytes, name_bytes, two_digits, is_short_escape}
 use Rattle.ir_lexer.specs.Signs.{quote, backslash}
-use Rattle.ir_lexer.specs.Spelling.{Text, Spelling, Fits, EachText, Spells, both, either, many, exactly, plain_byte, escape, string, mark, digit, letter, suffix_id, bare_id, one_of, name, spelling}
+use Rattle.ir_lexer.specs.Spelling.{Text, Spelling, Fits, EachText, Spells, both, either, many, exactly, plain_byte, escape, string, mark, digit, letter, suffix_id, one_of, name, spelling}
 use Rattle.ir_lexer.proofs.Derive.{behind_all, takes_none, none-in, behind, behind-out}
 use Rattle.ir_lexer.proofs.Machine.{upto, below}
 use Rattle.derived_printer.specs.Spelling.{is_shown, hex_digit, escaped_byte, escaped, string_text, symbol_text, is_bare_start, is_bare_byte, goes_on_bare, is_bare, key_class, key_text, name_class, name_sign, name_text}
@@ -111,9 +111,13 @@ string-fits : (t : Text) → AreBytes t → Fits string (string_text t)
 unfolding string_text
 string-fits t h = let (ps, e, f) = escaped-items t h in
     let a_quote : Fits
-    (exactly (codes "\"")) (quote ∷ []) = (quote, refl, omega arith, omega arith) in
-    (quote ∷ [], escaped t ++ quote ∷ [], refl, a_quote,
-    (escaped t, quote ∷ [], refl, (ps, e, f), a_quote))
+    (exactly (codes "\"")) (quote ∷ []) = (quote, refl, omega arith, omega arith) in (
+      quote ∷ [],
+      escaped t ++ quote ∷ [],
+      refl,
+      a_quote,
+      (escaped t, quote ∷ [], refl, (ps, e, f), a_quote),
+    )
 
 -- a string spells its class
 pub string-spelled : (t : Text) → AreBytes t → Spells c.Str (string_text t)
@@ -181,9 +185,13 @@ bare-fits : (first r : Spelling) → upto 256 (bytes_are_right first is_bare_sta
     → upto 256 (bytes_are_right r is_bare_byte) ≡ true → (t : Text) → is_bare t ≡ true
     → Fits (both first (many r)) t
 bare-fits first r one all [] e = absurd (cc)
-bare-fits first r one all (b ∷ t) e = let k = and-true (is_bare_start b) _ e in
-    (b ∷ [], t, refl, byte-fits first is_bare_start one b (start-small b k.0) k.0,
-    bare-rest r all t k.1)
+bare-fits first r one all (b ∷ t) e = let k = and-true (is_bare_start b) _ e in (
+  b ∷ [],
+  t,
+  refl,
+  byte-fits first is_bare_start one b (start-small b k.0) k.0,
+  bare-rest r all t k.1,
+)
 
 -- a bare id is a word
 pub bare-spelled : (t : Text) → is_bare t ≡ true → Spells c.Word t

@@ -1,5 +1,5 @@
 -- Types are read as they are written.
-use Rattle.std.proofs.Common.{◌≡◌, ℕ, suc, ◌==◌, Bool, true, false, List, [], ◌∷◌, ◌++◌, map, take, drop, refl, sym, ◌∙◌, ap, Some, None, option_map, option_and_then, codes, append-nil, inl, IsTrue}
+use Rattle.std.proofs.Common.{◌≡◌, ℕ, suc, true, false, List, [], ◌∷◌, ◌++◌, map, take, drop, refl, sym, ◌∙◌, ap, Some, None, option_map, codes, append-nil, inl}
 use Rattle.std.proofs.lemmas.List.{take-append-drop, length-take-le}
 use Rattle.std.specs.List.{AllByRecursion, AllZip}
 use Rattle.attr_value.specs.declared.head.Head.{Head}
@@ -17,18 +17,15 @@ use Rattle.generic_syntax.specs.Values as syntax
 use Rattle.grammar.specs.Grammar.{alt}
 use Rattle.ir_lexer.specs.declared.class.Class.TheVariants as c
 use Rattle.ir_lexer.specs.Spelling.{Text}
-use Rattle.ir_lexer.specs.Tokens.{Token}
 use Rattle.text_layout.specs.Apart.{clash_never}
-use Rattle.text_layout.specs.Gives.{Gives}
 use Rattle.text_layout.specs.Tidy.{last_alone}
 use Rattle.text_layout.proofs.Gives.{token_at, gives-ret, gives-both, gives-left, gives-right, gives-made, gives-same}
-use Rattle.value_meaning.specs.Meaning.{Aliases, seen, value_of, values_of, leaf, made_of}
+use Rattle.value_meaning.specs.Meaning.{Aliases, seen, values_of, leaf, made_of}
 use Rattle.value_meaning.specs.Spelled.{word_head, all_some, dim_of}
 use Rattle.derived_printer.specs.Spelling.{shape_text, dims_text}
 use Rattle.derived_printer.specs.ValueMarks.{Marks, Kid, a_sign, a_word, commas, in_parens, in_angles, is_unit_head, dims_marks, marks_of, head_marks, kid_marks, value_marks}
 use Rattle.derived_printer.proofs.Dims.{dims-spelled, dims-back}
 use Rattle.derived_printer.proofs.Kids.{all-marks, take-marks, drop-marks, all-take, all-drop}
-use Rattle.derived_printer.proofs.Nesting.{within}
 use Rattle.derived_printer.proofs.Pieces.{given-parens, given-angles, given-type-word}
 use Rattle.derived_printer.proofs.Readable.{GivesAt, HasValue, FormHas, Readable, plain-readable, function-readable, type-given, types-given, all-spelled, both-spelled, as-many, made-of-kids}
 use Rattle.derived_printer.proofs.Signs.{pass-any, given-sign, given-word, given-before}
@@ -165,19 +162,29 @@ module _ (al : Aliases) (room : ℕ) where
       (λ l x p q. (rw p refl, q))
   dims-given kind (d ∷ ds) v s b t = let k = type-given al room v b t in
       let w : Text = dims_text (d ∷ ds) in record {
-    tidy = record {
-      spelled = (dims-spelled kind d ds s, k.tidy.spelled);
-      apart = type-behind-dims v.head (kid_marks v.kids) t k.tidy.apart;
-      first = refl;
-      last = type-ends v.head (kid_marks v.kids) t k.tidy.last;
-    };
-    tree = λ ts (place, rest, e, s2). let tk = token_at c.Dims w place in
-        let (x, y, q) = k.tree rest s2 in
-        let is : ts ≡ (tk ∷ []) ++ rest = cc in
-        ((dims_from [] w, x),
-        (tk ∷ [], rest, dims_from [] w, x, is, inl (tk, refl, pass-any c.Dims w place, refl, refl),
-        y, refl), (dims-back kind (d ∷ ds) s, q));
-  }
+        tidy = record {
+          spelled = (dims-spelled kind d ds s, k.tidy.spelled);
+          apart = type-behind-dims v.head (kid_marks v.kids) t k.tidy.apart;
+          first = refl;
+          last = type-ends v.head (kid_marks v.kids) t k.tidy.last;
+        };
+        tree = λ ts (place, rest, e, s2). let tk = token_at c.Dims w place in
+            let (x, y, q) = k.tree rest s2 in
+            let is : ts ≡ (tk ∷ []) ++ rest = cc in (
+              (dims_from [] w, x),
+              (
+                tk ∷ [],
+                rest,
+                dims_from [] w,
+                x,
+                is,
+                inl (tk, refl, pass-any c.Dims w place, refl, refl),
+                y,
+                refl,
+              ),
+              (dims-back kind (d ∷ ds) s, q),
+            );
+      }
 
   shape-given : (kind : ShapeKind) (ds : List Dim) (v : Value) → AllByRecursion (IsDim kind) ds
       → Readable al room v → IsType v

@@ -1,5 +1,5 @@
 -- Words: those that are always the same, and the names of types.
-use Rattle.std.proofs.Common.{◌≡◌, ℕ, ◌<◌, ◌≤◌, ◌^◌, ◌==◌, Bool, true, false, not, ◌&&◌, ◌||◌, List, [], ◌∷◌, refl, sym, ◌∙◌, ap, cond, arith, inl, inr, codes, decimal, Some, Option, ℤ, pos, negsuc, bytes_eq}
+use Rattle.std.proofs.Common.{◌≡◌, ℕ, ◌<◌, ◌^◌, ◌==◌, Bool, true, false, not, ◌||◌, [], ◌∷◌, refl, sym, ◌∙◌, ap, cond, arith, inl, inr, codes, decimal, Some, pos, negsuc}
 use Rattle.std.proofs.lemmas.Bool.{le-leb}
 use Rattle.attr_value.specs.declared.head.Head.{Head}
 use Rattle.attr_value.specs.declared.head.Head.TheVariants as h
@@ -13,12 +13,11 @@ use Rattle.attr_value.specs.Heads.{IsIntType, IsTypeWidth}
 use Rattle.generic_syntax.specs.Values.{type_words}
 use Rattle.grammar.specs.Looks as look
 use Rattle.grammar.specs.Looks.{all_digits, is_width, is_integer_word, is_among}
-use Rattle.grammar.proofs.Meet.{true-or}
 use Rattle.ir_lexer.specs.declared.class.Class.TheVariants as c
-use Rattle.ir_lexer.specs.Spelling.{Text, Spelling, Fits, Spells, both, either, many, digit, letter, one_of, bare_id}
+use Rattle.ir_lexer.specs.Spelling.{Text, Spelling, Fits, Spells, either, digit, letter, one_of, bare_id}
 use Rattle.ir_lexer.proofs.Derive.{behind_all, takes_none, and-both}
 use Rattle.value_meaning.specs.Spelled.{word_head, int_kind_of}
-use Rattle.derived_printer.specs.Spelling.{int_text, float_text, shape_text, truth_text}
+use Rattle.derived_printer.specs.Spelling.{int_text, float_text, shape_text}
 use Rattle.derived_printer.proofs.Decimals.{is_digit, Digits, digits-of, digit-byte, digit-rows}
 use Rattle.derived_printer.proofs.Strings.{fits-by, spells-by}
 

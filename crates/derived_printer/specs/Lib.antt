@@ -1,3 +1,4 @@
 pub mod Spelling
 pub mod ValueMarks
 pub mod Spellable
+pub mod ReadBack

@@ -2,5 +2,10 @@
 //!
 //! What is written of a value is a function of the value alone: the list of tokens `value_marks` of
 //! `specs/ValueMarks.antt`, and `specs/Spelling.antt` has the texts of strings, symbols, keys and
-//! numbers. What stands between the tokens is the layout's business.
+//! numbers. What stands between the tokens is the layout's business. `src/laws.rt` says that the text
+//! is read as the value.
 #![tactic(auto)]
+
+mod laws;
+
+pub use laws::value_reads_back;
