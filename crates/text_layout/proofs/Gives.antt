@@ -4,7 +4,7 @@
 -- behind the other; what the tree says is put together on the way.
 use Rattle.std.proofs.Common.{◌≡◌, ℕ, ◌+◌, Bool, true, false, ◌&&◌, List, [], ◌∷◌, ◌++◌, length, inl, inr, refl, subst, map}
 use Rattle.std.specs.List.{AllByRecursion, AllZip}
-use Rattle.grammar.specs.Grammar.{G, Tokens, EachPiece, ret, tok, both, alt, star, made, placed, kid, place_of}
+use Rattle.grammar.specs.Grammar.{G, Tokens, EachPiece, ret, tok, both, alt, star, chain, made, placed, kid, place_of}
 use Rattle.grammar.specs.Looks.{Look, passes}
 use Rattle.grammar.specs.Within.{Within}
 use Rattle.ir_lexer.specs.declared.class.Class.{Class}
@@ -16,7 +16,7 @@ use Rattle.text_layout.specs.Apart.{tokens_from, tokens_of}
 use Rattle.text_layout.specs.Gives.{MarksSpell, Gives, GivesKid}
 use Rattle.text_layout.specs.Lines.{Mark, token, ask, break_line, Line, first_line, line_after, line_end, gap_before}
 use Rattle.text_layout.specs.Tidy.{Tidy}
-use Rattle.text_layout.proofs.Tidy.{tidy-none, tidy-ask, tidy-both}
+use Rattle.text_layout.proofs.Tidy.{tidy-none, tidy-ask, tidy-break, tidy-both}
 
 -- a token at a place
 abbrev pub token_at : Class → Text → ℕ → Token
@@ -99,6 +99,12 @@ module _ {X : Type 0} {Sem : X → Type 0} {Inside : (x : X) → Tokens → Sem 
   pub gives-ask : {A : Type 0} {P : A → Type 0} {gap : Gap} (a : A) → P a
       → Gives Inside none (ret a) (ask gap ∷ []) P
   gives-ask a p = record { tidy = tidy-ask; tree = λ ts s. (a, (s, refl), p) }
+
+  -- behind a break of the line
+  pub gives-break : {A : Type 0} {g : G X Sem A} {ms : List Mark} {indent : ℕ} {P : A → Type 0}
+      → Gives Inside none g ms P → Gives Inside none g (break_line indent ∷ ms) P
+  gives-break {ms = ms} {indent = indent} x =
+      record { tidy = tidy-break indent ms x.tidy; tree = x.tree }
 
   -- one token
   pub gives-tok : {A : Type 0} {P : A → Type 0} (begins : Bool) (shallow : (begins && none) ≡ false)
@@ -185,4 +191,73 @@ module _ {X : Type 0} {Sem : X → Type 0} {Inside : (x : X) → Tokens → Sem 
     tidy = row-tidy Inside none g marks R bs x;
     tree = λ ts s. let (trees, d, p) = row-given Inside none g marks R bs x ts s in
         (f trees, (trees, d, refl), q trees p);
+  }
+
+  -- no piece, and a piece and those behind it
+  pub gives-no-more : {A : Type 0} {g : G X Sem A} {R : List A → Type 0}
+      → R [] → Gives Inside none (star (λ l. l) g) [] R
+  gives-no-more r = record { tidy = tidy-none; tree = λ ts s. ([], ([], s, refl), r) }
+
+  pub gives-more : {A : Type 0} {g : G X Sem A} {ms ns : List Mark} {P : A → Type 0}
+      {R S : List A → Type 0}
+      → Gives Inside none g ms P → Gives Inside none (star (λ l. l) g) ns R
+      → ((a : A) (l : List A) → P a → R l → S (a ∷ l)) → Gives Inside none (star (λ l. l) g)
+      (ms ++ ns) S
+  gives-more {ms = ms} {ns = ns} {R = R} x y s = record {
+    tidy = tidy-both ms ns x.tidy y.tidy;
+    tree = λ ts t. let (front, back, e, t1, t2) = spell-both ms ns ts t in
+        let (a, d1, pa) = x.tree front t1 in
+        let (k, (l, row, same), r) = y.tree back t2 in
+        (a ∷ l, (a ∷ l, (front, back, e, d1, row), refl), s a l pa (subst R same r));
+  }
+
+  -- ---- heads with bodies, one behind the other
+
+  -- none
+  pub gives-no-links : {B C D I : Type 0} {p : B → C → I} {q : B → D → I} {h : G X Sem B}
+      {k : G X Sem C} {l : G X Sem D} {R : List I → Type 0}
+      → R [] → Gives Inside none (chain (λ is. is) p q h k l) [] R
+  gives-no-links r = record { tidy = tidy-none; tree = λ ts s. ([], ([], s, refl), r) }
+
+  -- a head, a body of the first kind, and what is behind them
+  pub gives-link : {B C D I : Type 0} {p : B → C → I} {q : B → D → I} {h : G X Sem B}
+      {k : G X Sem C} {l : G X Sem D}
+      {ms ns os : List Mark} {P : B → Type 0} {Q : C → Type 0} {R S : List I → Type 0}
+      → Gives Inside none h ms P → Gives Inside none k ns Q
+      → Gives Inside none (chain (λ is. is) p q h k l) os R
+      → ((b : B) (c : C) (is : List I) → P b → Q c → R is → S (p b c ∷ is))
+      → Gives Inside none (chain (λ is. is) p q h k l) (ms ++ (ns ++ os)) S
+  gives-link {p = p} {ms = ms} {ns = ns} {os = os} {R = R} x y z s = record {
+    tidy = tidy-both ms (ns ++ os) x.tidy (tidy-both ns os y.tidy z.tidy);
+    tree = λ ts t. let (front, back, e, t1, t2) = spell-both ms (ns ++ os) ts t in
+        let (mid, rest, e2, t3, t4) = spell-both ns os back t2 in
+        let (b, d1, pb) = x.tree front t1 in
+        let (c, d2, qc) = y.tree mid t3 in
+        let (js, (is, links, same), r) = z.tree rest t4 in (
+          p b c ∷ is,
+          (
+            p b c ∷ is,
+            (front, back, b, e, d1, inl (mid, rest, c, e2, d2, links, refl)),
+            refl,
+          ),
+          s b c is pb qc (subst R same r),
+        );
+  }
+
+  -- a head and a body of the second kind, which end them
+  pub gives-last-link : {B C D I : Type 0} {p : B → C → I} {q : B → D → I} {h : G X Sem B}
+      {k : G X Sem C} {l : G X Sem D}
+      {ms ns : List Mark} {P : B → Type 0} {Q : D → Type 0} {S : List I → Type 0}
+      → Gives Inside none h ms P → Gives Inside none l ns Q
+      → ((b : B) (d : D) → P b → Q d → S (q b d ∷ []))
+      → Gives Inside none (chain (λ is. is) p q h k l) (ms ++ ns) S
+  gives-last-link {q = q} {ms = ms} {ns = ns} x y s = record {
+    tidy = tidy-both ms ns x.tidy y.tidy;
+    tree = λ ts t. let (front, back, e, t1, t2) = spell-both ms ns ts t in
+        let (b, d1, pb) = x.tree front t1 in
+        let (d, d2, qd) = y.tree back t2 in (
+          q b d ∷ [],
+          (q b d ∷ [], (front, back, b, e, d1, inr (d, d2, refl, refl)), refl),
+          s b d pb qd,
+        );
   }
