@@ -14,7 +14,7 @@ use Rattle.constraint_solver.specs.Definitions.{HasGoodKids}
 
 module _ (values : List Value) (tests : Tests) (types : List TypeDef) where
   -- good values keep to their rules, and so do all in them
-  good-nodes : (vs : Values) → AllByRecursion (Good values tests types) (list_of vs)
+  pub good-nodes : (vs : Values) → AllByRecursion (Good values tests types) (list_of vs)
       → AreGoodNodes values tests types vs
   good-nodes none good = tt
   good-nodes (more head kids rest) good =

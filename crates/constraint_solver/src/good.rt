@@ -38,8 +38,9 @@ pub fn is_instance_of(d: &TypeDef, natives: &Natives, u: &Uniquer, kids: &[Value
     solve_below(u, natives, &d.body, n, &mut slots)
 }
 
-/// Whether a definition is of this kind and name.
-fn is_defined_as(d: &TypeDef, is_type: bool, name: &Text) -> bool
+/// Whether a definition is of this kind, type or attribute, and has this full name. It takes no
+/// memory.
+pub fn is_defined_as(d: &TypeDef, is_type: bool, name: &Text) -> bool
     ensures { IsTrue result ↔ ((d.now.is_type ≡ is_type) × (d.now.name ≡ name.now)) }
 {
     d.is_type == is_type && d.name == *name

@@ -15,7 +15,7 @@ mod search;
 mod sound;
 
 pub use assignment::Assignment;
-pub use good::{good_head, is_instance, is_instance_of};
+pub use good::{good_head, is_defined_as, is_instance, is_instance_of};
 pub use search::solve;
 pub use sound::{are_below, are_roots, are_sound_defs, is_sound_body, is_sound_def};
 
