@@ -2,7 +2,7 @@
 --
 -- The theorem on grammars speaks of one layer, and asks the same of the nonterminals. Here it is
 -- tied into a knot, by how deep values nest.
-use Rattle.std.proofs.Common.{◌≡◌, ℕ, zero, suc, ◌≤◌, ◌==◌, true, List, [], ◌∷◌, subst, sym, arith}
+use Rattle.std.proofs.Common.{◌≡◌, ℕ, zero, suc, ◌≤◌, ◌==◌, true, List, [], ◌∷◌, ◌++◌, subst, sym, arith}
 use Rattle.generic_syntax.specs.declared.cst.ValueCst.{ValueCst}
 use Rattle.grammar.specs.Exact.{HasMore}
 use Rattle.grammar.specs.Front.{Some_of}
@@ -76,6 +76,11 @@ trees = record {
 -- tokens are one value
 pub one-value : (x : Sort) (d : Tokens) (a b : ValueCst) → IsValue x d a → IsValue x d b → a ≡ b
 one-value x = (trees.each x).one
+
+-- what goes on with a whole value is in the table
+pub value-goes : (x : Sort) (d : Tokens) (y : Token) (e : Tokens) (a b : ValueCst) → IsValue x d a
+    → IsValue x (d ++ y ∷ e) b → any (value_more_looks x) y ≡ true
+value-goes x = (trees.each x).goes
 
 -- ---- readers, by depth
 
