@@ -27,15 +27,16 @@ use Rattle.value_meaning.specs.Spelled.{word_head}
 use Rattle.derived_printer.specs.Spelling.{string_text, symbol_text, name_class, name_text}
 use Rattle.derived_printer.specs.Spellable.{AreBytes, IsFullName}
 use Rattle.derived_printer.specs.ValueMarks.{Marks, a_word, commas, in_angles, in_squares, behind_signs, part_marks, symbol_marks, marks_of, kid_marks, value_marks, unless_empty}
-use Rattle.derived_printer.proofs.Kids.{all-marks}
+use Rattle.derived_printer.proofs.KidMarks.{all-marks}
 use Rattle.derived_printer.proofs.Nesting.{within}
 use Rattle.derived_printer.proofs.Pieces.{given-angles, given-squares, given-one-of}
 use Rattle.derived_printer.proofs.Readable.{GivesAt, HasValue, FormHas, Readable, plain-readable, attr-readable, attrs-given, all-spelled, made-of-kids}
 use Rattle.derived_printer.proofs.Signs.{pass-any}
-use Rattle.derived_printer.proofs.Strings.{spells-by, string-spelled, string-back, symbol-spelled, symbol-back, full-name-spelled, full-name-dotted, full-name-back}
+use Rattle.derived_printer.proofs.Spelled.{sign-spelled, word-spelled, string-spelled, symbol-spelled, name-spelled}
+use Rattle.derived_printer.proofs.Strings.{string-back, symbol-back, full-name-dotted, full-name-back}
 use Rattle.derived_printer.proofs.Trees.{of-string, of-array, of-symbol, of-dialect}
 use Rattle.derived_printer.proofs.Types.{word-value}
-use Rattle.derived_printer.proofs.Words.{fixed-word, unit-head}
+use Rattle.derived_printer.proofs.Words.{unit-head}
 
 -- ---- the parts of a symbol
 
@@ -46,7 +47,7 @@ parts_behind ns = behind_signs c.ColonColon (map part_marks ns)
 parts-spelled : (ns : List Text) → AllByRecursion AreBytes ns → AreSpelled (parts_behind ns)
 parts-spelled [] all = tt
 parts-spelled (n ∷ ns) (x, all) =
-    (spells-by c.ColonColon (codes "::") refl, (symbol-spelled n x, parts-spelled ns all))
+    (sign-spelled c.ColonColon refl, (symbol-spelled n x, parts-spelled ns all))
 
 parts-apart : (ns : List Text) → clash_never (Some c.SymbolName) (parts_behind ns) ≡ true
 parts-apart [] = refl
@@ -58,14 +59,12 @@ parts-last (n ∷ ns) = parts-last ns
 
 symbol-tidy : (n : Text) (ns : List Text) → AllByRecursion AreBytes (n ∷ ns)
     → Tidy (symbol_marks (n ∷ ns))
-symbol-tidy n ns (x, all) =
-    record {
-      spelled = (symbol-spelled n x, parts-spelled ns all);
-      apart = parts-apart ns;
-      first =
-          refl;
-      last = parts-last ns;
-    }
+symbol-tidy n ns (x, all) = record {
+  spelled = (symbol-spelled n x, parts-spelled ns all);
+  apart = parts-apart ns;
+  first = refl;
+  last = parts-last ns;
+}
 
 module _ (al : Aliases) (room : ℕ) where
   -- ---- words, strings, arrays
@@ -80,7 +79,7 @@ module _ (al : Aliases) (room : ℕ) where
 
   pub unit-readable : Readable al (suc room) (leaf h.Unit)
   unit-readable = attr-readable al room (leaf h.Unit) refl (λ e. refl)
-      (attr-word-given (codes "unit") h.Unit (fixed-word (codes "unit") refl) refl unit-head)
+      (attr-word-given (codes "unit") h.Unit (word-spelled (codes "unit") refl) refl unit-head)
 
   pub string-readable : (t : Text) → AreBytes t → Readable al (suc room) (leaf (h.Str t))
   string-readable t s = attr-readable al room (leaf (h.Str t)) refl (λ e. absurd (cc))
@@ -215,11 +214,11 @@ module _ (al : Aliases) (room : ℕ) where
   dialect-readable true name kids n b = plain-readable al room (value (h.Dialect true name) kids)
       refl
       (gives-right (gives-right (gives-left
-      (dialect-given true name kids n (tidy-token c.TypeName _ (full-name-spelled true name n) refl)
+      (dialect-given true name kids n (tidy-token c.TypeName _ (name-spelled true name n.bare) refl)
       b))))
   dialect-readable false name kids n b = attr-readable al room (value (h.Dialect false name) kids)
       refl (λ e. absurd (cc))
       (gives-right
       (gives-right (gives-right (gives-right (gives-right (gives-right (gives-right (gives-left
       (dialect-given false name kids n
-      (tidy-token c.AttrName _ (full-name-spelled false name n) refl) b)))))))))
+      (tidy-token c.AttrName _ (name-spelled false name n.bare) refl) b)))))))))

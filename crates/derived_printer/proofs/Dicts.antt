@@ -24,12 +24,13 @@ use Rattle.value_meaning.specs.Spelled.{all_some, sorted_entries}
 use Rattle.derived_printer.specs.Spelling.{string_text, is_bare, key_class, key_text}
 use Rattle.derived_printer.specs.Spellable.{AreBytes}
 use Rattle.derived_printer.specs.ValueMarks.{a_sign, commas, in_braces, is_unit_head, entry_marks, value_marks}
-use Rattle.derived_printer.proofs.Kids.{shown_kid, keyed-marks, dict-of-zip, sorted-ascend}
+use Rattle.derived_printer.proofs.KidMarks.{shown_kid, keyed-marks, dict-of-zip, sorted-ascend}
 use Rattle.derived_printer.proofs.Nesting.{within}
 use Rattle.derived_printer.proofs.Pieces.{given-braces}
 use Rattle.derived_printer.proofs.Readable.{GivesAt, HasValue, Readable, attr-readable, attr-given}
 use Rattle.derived_printer.proofs.Signs.{pass-any, given-sign, given-before, given-list}
-use Rattle.derived_printer.proofs.Strings.{string-spelled, string-back, bare-spelled}
+use Rattle.derived_printer.proofs.Spelled.{word-spelled, string-spelled}
+use Rattle.derived_printer.proofs.Strings.{string-back}
 use Rattle.derived_printer.proofs.Trees.{of-dict, of-entry, of-key}
 
 not-zero : (n : ℕ) → 0 < n → (n == 0) ≡ false
@@ -51,7 +52,7 @@ module _ (al : Aliases) (room : ℕ) where
           → GivesAt room syntax.key (token (cond b c.Word c.Str) (cond b k (string_text k)) ∷ [])
           (λ y. y ≡ k)
       go true e = gives-left (gives-tok true some (any_of c.Word) (λ t. t.text) c.Word k
-          (tidy-token c.Word k (bare-spelled k e) refl) (λ place. pass-any c.Word k place)
+          (tidy-token c.Word k (word-spelled k e) refl) (λ place. pass-any c.Word k place)
           (λ place. refl))
       go false e =
           gives-right (gives-tok true some (any_of c.Str) (λ t. literal_bytes t.text) c.Str
@@ -81,8 +82,7 @@ module _ (al : Aliases) (room : ℕ) where
   EntryHas e kv = entry_value (entry_seen al e) ≡ Some kv
 
   entry-has : (place : ℕ) (w : Text) (o : Option ValueCst) (k : Text) (v : Value) → w ≡ k
-      → Holds v o
-      → EntryHas (entry_at place (w, o)) (k, v)
+      → Holds v o → EntryHas (entry_at place (w, o)) (k, v)
   entry-has place w o k v e (inl (n, u)) =
       ap (λ o. entry_value (entry_seen al (entry_at place (w, o)))) n ∙ of-key al place w
       ∙ (let s : leaf h.Unit ≡ v = sym u in rw (e, s) refl)
@@ -98,8 +98,7 @@ module _ (al : Aliases) (room : ℕ) where
       (λ place x q. entry-has place x.0 x.1 k v q.0 q.1)
 
   each-entry : (keys : List Text) (vs : List Value) → (0 < length vs → (room == 0) ≡ false)
-      → AllByRecursion AreBytes keys
-      → AllByRecursion (Readable al room) vs
+      → AllByRecursion AreBytes keys → AllByRecursion (Readable al room) vs
       → AllByRecursion (λ e. GivesAt room syntax.entry (entry_marks (e.0, shown_kid e.1))
       (λ a. EntryHas a e)) (zip keys vs)
   each-entry [] vs some s b = tt
@@ -123,8 +122,7 @@ module _ (al : Aliases) (room : ℕ) where
   some-room (more head kids rest) d some = not-zero room (omega (arith, d))
 
   dict-form : (keys : List Text) (kids : Values) → OwnRule (h.Dict keys) (list_of kids)
-      → (es : List EntryCst)
-      → AllZip EntryHas es (zip keys (list_of kids))
+      → (es : List EntryCst) → AllZip EntryHas es (zip keys (list_of kids))
       → option_map dict_of
       (option_and_then sorted_entries (all_some (map entry_value (map (entry_seen al) es))))
       ≡ Some (value (h.Dict keys) kids)
@@ -135,8 +133,8 @@ module _ (al : Aliases) (room : ℕ) where
       ∙ ap (λ v. Some v) (dict-of-zip keys kids r.count)
 
   pub dict-readable : (keys : List Text) (kids : Values) → greatest_depth kids ≤ room
-      → OwnRule (h.Dict keys) (list_of kids)
-      → AllByRecursion AreBytes keys → AllByRecursion (Readable al room) (list_of kids)
+      → OwnRule (h.Dict keys) (list_of kids) → AllByRecursion AreBytes keys
+      → AllByRecursion (Readable al room) (list_of kids)
       → Readable al (suc room) (value (h.Dict keys) kids)
   dict-readable keys kids deep r s b = let vs = list_of kids in
       attr-readable al room (value (h.Dict keys) kids) refl (λ e. absurd (cc))

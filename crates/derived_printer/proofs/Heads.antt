@@ -9,7 +9,7 @@ use Rattle.derived_printer.specs.Spelling.{int_text, float_text}
 use Rattle.derived_printer.specs.Spellable.{NodeIsSpellable, AreSpellable, Spellable, HeadHasBytes, HaveBytes, HasBytes}
 use Rattle.derived_printer.proofs.Attributes.{unit-readable, string-readable, array-readable, symbol-readable, dialect-readable}
 use Rattle.derived_printer.proofs.Dicts.{dict-readable}
-use Rattle.derived_printer.proofs.Kids.{no-kids}
+use Rattle.derived_printer.proofs.KidMarks.{no-kids}
 use Rattle.derived_printer.proofs.Numerals.{number-readable, dense-readable}
 use Rattle.derived_printer.proofs.Readable.{Readable}
 use Rattle.derived_printer.proofs.Types.{word-readable, tuple-readable, complex-readable, function-type-readable, shape-readable}
@@ -18,8 +18,7 @@ use Rattle.derived_printer.proofs.Words.{int-word, none-word, float-word}
 module _ (al : Aliases) where
   -- a value that may have no kids
   leaf-readable : (room : ℕ) (head : Head) (kids : Values) → length (list_of kids) ≡ 0
-      → Readable al (suc room) (leaf head)
-      → Readable al (suc room) (value head kids)
+      → Readable al (suc room) (leaf head) → Readable al (suc room) (value head kids)
   leaf-readable room head kids e b =
       subst (λ (k : Values). Readable al (suc room) (value head k)) (sym (no-kids kids e)) b
 

@@ -1,106 +1,136 @@
--- The kids of a value, as a list, and their marks.
-use Rattle.std.proofs.Common.{◌≡◌, ℕ, zero, suc, List, [], ◌∷◌, length, map, take, drop, refl, sym, ◌∙◌, ap, arith, Some, option_and_then}
-use Rattle.std.proofs.lemmas.List.{take-map}
-use Rattle.std.proofs.lemmas.Slice.Zip.{firsts-zip, seconds-zip}
-use Rattle.std.specs.List.{AllByRecursion, zip}
+-- The kids of a value, by their ids.
+use Rattle.std.proofs.Common.{◌≡◌, ◌≢◌, ℕ, zero, suc, ◌+◌, ◌<◌, ◌≤◌, List, [], ◌∷◌, refl, sym, ◌∙◌, ap, subst, arith, length, take, drop, get_or}
+use Rattle.attr_value.specs.declared.head.Head.{Head}
 use Rattle.attr_value.specs.declared.head.Head.TheVariants as h
-use Rattle.attr_value.specs.Heads.{Ascend}
-use Rattle.attr_value.specs.Values.{Value, Values, none, more, value, list_of}
+use Rattle.attr_value.specs.declared.head.ValueId.{ValueId}
+use Rattle.attr_value.specs.Heads.{MayHaveKids}
+use Rattle.attr_value.specs.Ids.{at, kids_at}
+use Rattle.attr_value.specs.Values.{Value, greatest_depth, depth, list_of}
 use Rattle.ir_lexer.specs.Spelling.{Text}
-use Rattle.value_meaning.specs.Meaning.{kids_of, made_of, dict_of}
-use Rattle.value_meaning.specs.Spelled.{sorted_entries, with_entry}
-use Rattle.derived_printer.specs.ValueMarks.{Kid, marks_of, entry_marks, head_marks, kid_marks, value_marks}
+use Rattle.derived_printer.specs.Parts.{CanPrint}
+use Rattle.derived_printer.specs.Spellable.{NodeIsSpellable}
+use Rattle.derived_printer.specs.ValueMarks.{Marks, kid_marks, value_marks, unless_empty}
+use Rattle.derived_printer.proofs.Loops.{drop-at}
 
--- ---- lists of values
+-- as many kids as ids
+pub length-kids : (vs : List Value) (ids : List ValueId)
+    → length (list_of (kids_at vs ids)) ≡ length ids
+length-kids vs [] = refl
+length-kids vs (id ∷ ids) = ap suc (length-kids vs ids)
 
--- a list is that of its values
-pub kids-of-list : (vs : Values) → kids_of (list_of vs) ≡ vs
-kids-of-list none = refl
-kids-of-list (more head kids rest) = ap (more head kids) (kids-of-list rest)
+-- the first and the others
+pub can-first : (vs : List Value) (id : ValueId) (ids : List ValueId) → CanPrint vs (id ∷ ids)
+    → CanPrint vs (id ∷ [])
+can-first vs id ids can = record {
+  known = (can.known.0, tt);
+  spellable = (can.spellable.0, can.spellable.1, tt);
+}
 
--- a list of no values has none
-pub no-kids : (vs : Values) → length (list_of vs) ≡ 0 → vs ≡ none
-no-kids none e = refl
-no-kids (more head kids rest) e = absurd (omega arith)
+can-others : (vs : List Value) (id : ValueId) (ids : List ValueId) → CanPrint vs (id ∷ ids)
+    → CanPrint vs ids
+can-others vs id ids can = record { known = can.known.1; spellable = can.spellable.2 }
 
-pub all-take : {A : Type 0} (P : A → Type 0) (n : ℕ) (xs : List A) → AllByRecursion P xs
-    → AllByRecursion P (take n xs)
-all-take P zero xs h = tt
-all-take P (suc n) [] h = tt
-all-take P (suc n) (x ∷ xs) (p, h) = (p, all-take P n xs h)
+can-none : (vs : List Value) → CanPrint vs []
+can-none vs = record { known = tt; spellable = tt }
 
-pub all-drop : {A : Type 0} (P : A → Type 0) (n : ℕ) (xs : List A) → AllByRecursion P xs
-    → AllByRecursion P (drop n xs)
-all-drop P zero xs h = h
-all-drop P (suc n) [] h = tt
-all-drop P (suc n) (x ∷ xs) (p, h) = all-drop P n xs h
+-- those from a place on
+pub can-drop : (vs : List Value) (n : ℕ) (ids : List ValueId) → CanPrint vs ids
+    → CanPrint vs (drop n ids)
+can-drop vs zero ids can = can
+can-drop vs (suc n) [] can = can
+can-drop vs (suc n) (id ∷ ids) can = can-drop vs n ids (can-others vs id ids can)
 
--- ---- their marks
+-- those up to a place
+pub can-take : (vs : List Value) (n : ℕ) (ids : List ValueId) → CanPrint vs ids
+    → CanPrint vs (take n ids)
+can-take vs zero ids can = can-none vs
+can-take vs (suc n) [] can = can
+can-take vs (suc n) (id ∷ ids) can =
+    let more = can-take vs n ids (can-others vs id ids can) in
+    record {
+      known = (can.known.0, more.known);
+      spellable = (can.spellable.0, can.spellable.1, more.spellable);
+    }
 
--- a value as a kid
-abbrev pub shown_kid : Value → Kid
-shown_kid v = (v.head, value_marks v)
+-- what the kids from a place on give
+pub kids-drop : (vs : List Value) (n : ℕ) (ids : List ValueId)
+    → kid_marks (kids_at vs (drop n ids)) ≡ drop n (kid_marks (kids_at vs ids))
+kids-drop vs zero ids = refl
+kids-drop vs (suc n) [] = refl
+kids-drop vs (suc n) (id ∷ ids) = kids-drop vs n ids
 
--- what kids give is what each gives
-pub kids-shown : (vs : Values) → kid_marks vs ≡ map shown_kid (list_of vs)
-kids-shown none = refl
-kids-shown (more head kids rest) = ap (λ l. (head, head_marks head (kid_marks kids)) ∷ l)
-    (kids-shown rest)
+-- what the kids up to a place give
+pub kids-take : (vs : List Value) (n : ℕ) (ids : List ValueId)
+    → kid_marks (kids_at vs (take n ids)) ≡ take n (kid_marks (kids_at vs ids))
+kids-take vs zero ids = refl
+kids-take vs (suc n) [] = refl
+kids-take vs (suc n) (id ∷ ids) =
+    let v = at vs id.0 in
+    ap (λ ks. (v.head, value_marks v) ∷ ks) (kids-take vs n ids)
 
-marks-shown : (vs : List Value) → marks_of (map shown_kid vs) ≡ map value_marks vs
-marks-shown [] = refl
-marks-shown (v ∷ vs) = ap (λ l. value_marks v ∷ l) (marks-shown vs)
+-- where there are ids, there are kids
+pub some-kids : (vs : List Value) (ids : List ValueId) (ms : Marks) → ids ≢ []
+    → unless_empty (kid_marks (kids_at vs ids)) ms ≡ ms
+some-kids vs [] ms some = absurd (some refl)
+some-kids vs (id ∷ ids) ms some = refl
 
-drop-map : {A B : Type 0} (f : A → B) (n : ℕ) (xs : List A) → drop n (map f xs) ≡ map f (drop n xs)
-drop-map f zero xs = refl
-drop-map f (suc n) [] = refl
-drop-map f (suc n) (x ∷ xs) = drop-map f n xs
+-- ---- depths
 
--- the marks of all kids, of the first n, and of those behind them
-pub all-marks : (vs : Values) → map value_marks (list_of vs) ≡ marks_of (kid_marks vs)
-all-marks vs = sym (ap marks_of (kids-shown vs) ∙ marks-shown (list_of vs))
+-- the kids from a place on are no deeper
+pub deep-drop : (vs : List Value) (n : ℕ) (ids : List ValueId)
+    → greatest_depth (kids_at vs (drop n ids)) ≤ greatest_depth (kids_at vs ids)
+deep-drop vs zero ids = omega arith
+deep-drop vs (suc n) [] = omega arith
+deep-drop vs (suc n) (id ∷ ids) = let less = deep-drop vs n ids in omega (arith, less)
 
-pub take-marks : (n : ℕ) (vs : Values) → map value_marks (take n (list_of vs))
-    ≡ marks_of (take n (kid_marks vs))
-take-marks n vs =
-    sym (ap (λ l. marks_of (take n l)) (kids-shown vs)
-    ∙ ap marks_of (take-map shown_kid n (list_of vs)) ∙ marks-shown (take n (list_of vs)))
+-- the kids up to a place are no deeper
+pub deep-take : (vs : List Value) (n : ℕ) (ids : List ValueId)
+    → greatest_depth (kids_at vs (take n ids)) ≤ greatest_depth (kids_at vs ids)
+deep-take vs zero ids = omega arith
+deep-take vs (suc n) [] = omega arith
+deep-take vs (suc n) (id ∷ ids) = let less = deep-take vs n ids in omega (arith, less)
 
-pub drop-marks : (n : ℕ) (vs : Values) → map value_marks (drop n (list_of vs))
-    ≡ marks_of (drop n (kid_marks vs))
-drop-marks n vs =
-    sym (ap (λ l. marks_of (drop n l)) (kids-shown vs)
-    ∙ ap marks_of (drop-map shown_kid n (list_of vs)) ∙ marks-shown (drop n (list_of vs)))
+-- the kid at a place is no deeper
+pub deep-at : (vs : List Value) (n : ℕ) (ids more : List ValueId) (id : ValueId)
+    → drop n ids ≡ id ∷ more → depth (at vs id.0) ≤ greatest_depth (kids_at vs ids)
+deep-at vs n ids more id is =
+    let less = deep-drop vs n ids in
+    let first : depth (at vs id.0) ≤ greatest_depth (kids_at vs (drop n ids)) =
+    rw is (omega arith) in
+    omega (arith, less, first)
 
--- ---- dictionaries
+-- ---- the kid at a place
 
-keyed-list : (keys : List Text) (vs : List Value)
-    → map (λ e. entry_marks (e.0, shown_kid e.1)) (zip keys vs) ≡ map entry_marks
-    (zip keys (map shown_kid vs))
-keyed-list [] vs = refl
-keyed-list (k ∷ ks) [] = refl
-keyed-list (k ∷ ks) (v ∷ vs) = ap (λ l. entry_marks (k, shown_kid v) ∷ l) (keyed-list ks vs)
+-- it can be spelled
+pub can-at : (vs : List Value) (ids : List ValueId) (i : ℕ) (d : ValueId) → i < length ids
+    → CanPrint vs ids → CanPrint vs (get_or ids i d ∷ [])
+can-at vs ids i d less can =
+    let x = get_or ids i d in
+    let here = drop-at ids i (i + 1) x d less refl refl in
+    can-first vs x (drop (i + 1) ids) (subst (CanPrint vs) here (can-drop vs i ids can))
 
--- the marks of entries
-pub keyed-marks : (keys : List Text) (kids : Values)
-    → map (λ e. entry_marks (e.0, shown_kid e.1)) (zip keys (list_of kids)) ≡ map entry_marks
-    (zip keys (kid_marks kids))
-keyed-marks keys kids =
-    keyed-list keys (list_of kids) ∙ sym (ap (λ l. map entry_marks (zip keys l)) (kids-shown kids))
+-- it nests one less deep
+pub deep-kid : (vs : List Value) (ids : List ValueId) (i : ℕ) (d : ValueId) → i < length ids
+    → depth (at vs (get_or ids i d).0) ≤ greatest_depth (kids_at vs ids)
+deep-kid vs ids i d less =
+    let x = get_or ids i d in
+    deep-at vs i ids (drop (i + 1) ids) x (drop-at ids i (i + 1) x d less refl refl)
 
--- keys with their values are the dictionary
-pub dict-of-zip : (keys : List Text) (kids : Values) → length (list_of kids) ≡ length keys
-    → dict_of (zip keys (list_of kids)) ≡ value (h.Dict keys) kids
-dict-of-zip keys kids e =
-    ap (λ l. made_of (h.Dict l) (map (λ e. e.1) (zip keys (list_of kids))))
-    (firsts-zip keys (list_of kids) e)
-    ∙ ap (λ l. made_of (h.Dict keys) l) (seconds-zip keys (list_of kids) e)
-    ∙ ap (λ k. value (h.Dict keys) k) (kids-of-list kids)
+-- ---- how many kids a head has
 
--- entries whose keys ascend are sorted
-pub sorted-ascend : (es : List (Text × Value)) → Ascend (map (λ e. e.0) es) → sorted_entries es
-    ≡ Some es
-sorted-ascend [] a = refl
-sorted-ascend (e ∷ []) a = refl
-sorted-ascend (e ∷ g ∷ gs) (lt, a) = ap (option_and_then (λ more. with_entry e more))
-    (sorted-ascend (g ∷ gs) a) ∙ rw lt refl
+-- a function type has its inputs at least
+pub function-count : (vs : List Value) (ids : List ValueId) (head : Head) (n : ℕ)
+    → head ≡ h.Function n → NodeIsSpellable head (kids_at vs ids) → n ≤ length ids
+function-count vs ids head n is node =
+    let count : n ≤ length (list_of (kids_at vs ids)) =
+    subst (λ x. MayHaveKids x (length (list_of (kids_at vs ids)))) is node.rule.count in
+    omega (arith, count, length-kids vs ids)
+
+-- a dictionary has one for each key
+pub dict-count : (vs : List Value) (ids : List ValueId) (head : Head) (keys texts : List Text)
+    → head ≡ h.Dict keys → texts ≡ keys → NodeIsSpellable head (kids_at vs ids)
+    → length ids ≡ length texts
+dict-count vs ids head keys texts is same node =
+    let count : length (list_of (kids_at vs ids)) ≡ length keys =
+    subst (λ x. MayHaveKids x (length (list_of (kids_at vs ids)))) is node.rule.count in
+    sym (length-kids vs ids) ∙ count ∙ sym (ap length same)

@@ -1,3 +1,9 @@
+pub mod Digits
+pub mod Loops
+pub mod Kids
+pub mod Parts
+pub mod Printing
+pub mod Spelled
 pub mod Strings
 pub mod Decimals
 pub mod Words
@@ -7,7 +13,7 @@ pub mod Trees
 pub mod Nesting
 pub mod Signs
 pub mod Pieces
-pub mod Kids
+pub mod KidMarks
 pub mod Readable
 pub mod Types
 pub mod Attributes

@@ -1,6 +1,6 @@
 -- Kept numbers: they are short, are kept again as they are, and those of one bit are two.
-use Rattle.std.proofs.Common.{◌≡◌, ℕ, zero, suc, ◌-◌, ◌<◌, ◌≤◌, ◌^◌, Bool, true, false, not, ◌&&◌, ◌⊎◌, inl, inr, refl, ◌∙◌, ap, arith, cond, if◌then◌else◌, nat_le, ℤ, pos, negsuc, neg_ℤ, nat_abs, ◌≤ℤ◌, ◌<ℤ◌, int_le, Some}
-use Rattle.std.proofs.lemmas.Bool.{le-leb}
+use Rattle.std.proofs.Common.{◌≡◌, ℕ, zero, suc, ◌-◌, ◌<◌, ◌≤◌, ◌^◌, Bool, true, false, not, ◌&&◌, ◌⊎◌, inl, inr, refl, ◌∙◌, ap, arith, if◌then◌else◌, nat_le, ℤ, pos, negsuc, neg_ℤ, nat_abs, ◌≤ℤ◌, ◌<ℤ◌, int_le, Some}
+use Rattle.std.proofs.lemmas.Bool.{cond-true, le-leb}
 use Rattle.std.proofs.lemmas.Float.{T_from_true}
 use Rattle.std.proofs.Math.Dec.{T, leb→le, ltb→lt}
 use Rattle.std.proofs.Math.Pow.{pow_mono}
@@ -67,10 +67,6 @@ all-three true true false e f g = refl
 all-three true true true e f g = absurd (cc)
 all-three true false d e f g = absurd (cc)
 all-three false b d e f g = absurd (cc)
-
-cond-true : {A : Type 0} (b : Bool) (x y : A) → b ≡ true → cond b x y ≡ x
-cond-true true x y e = refl
-cond-true false x y e = absurd (cc)
 
 kept-by : (kind : IntKind) (n : ℤ) → is_number_kind kind ≡ true → lowest kind ≤ℤ n → n <ℤ limit kind
     → kept kind n ≡ n → residue kind n ≡ Some n

@@ -23,16 +23,16 @@ use Rattle.value_meaning.specs.Spelled.{signed_number, residue, number_head, den
 use Rattle.derived_printer.specs.Spelling.{int_text, is_truth_kind, truth_text}
 use Rattle.derived_printer.specs.ValueMarks.{a_sign, a_word, commas, number_marks, item_marks, unless_empty}
 use Rattle.derived_printer.proofs.Attributes.{attr-word-given}
-use Rattle.derived_printer.proofs.Decimals.{decimal-spelled, decimal-digits, decimal-back}
+use Rattle.derived_printer.proofs.Decimals.{wide, decimal-digits, decimal-back}
 use Rattle.derived_printer.proofs.Numbers.{kept-small, kept-again, kept-bit, number-width}
 use Rattle.derived_printer.proofs.Pieces.{given-angles, given-one-of}
 use Rattle.derived_printer.proofs.Readable.{GivesAt, HasValue, FormHas, Readable, attr-readable, form-placed}
 use Rattle.derived_printer.proofs.Signs.{pass-any, given-sign, given-word, given-before, given-some}
-use Rattle.derived_printer.proofs.Strings.{spells-by}
+use Rattle.derived_printer.proofs.Spelled.{sign-spelled, word-spelled, decimal-spelled}
 use Rattle.derived_printer.proofs.Nesting.{within}
 use Rattle.derived_printer.proofs.Trees.{node_value, of-number, of-dense}
 use Rattle.derived_printer.proofs.Types.{type-word-given}
-use Rattle.derived_printer.proofs.Words.{fixed-word, int-word, true-head, false-head}
+use Rattle.derived_printer.proofs.Words.{int-word, true-head, false-head}
 
 -- digits are neither `true` nor `false`
 no-truth : (t : Text) → all_digits t ≡ true → looked_up truths t ≡ None
@@ -54,17 +54,17 @@ module _ (al : Aliases) (room : ℕ) where
   Spells_number n x = (signed_number x.0 x.1 ≡ n) × (all_digits x.1 ≡ true)
 
   -- a number alone is read as it
-  pub signed-given : (n : ℤ) → nat_abs n < 2 ^ 64 → GivesAt room syntax.signed (number_marks n)
-      (Spells_number n)
+  pub signed-given : (n : ℤ) → nat_abs n < 2 ^ 64
+      → GivesAt room syntax.signed (number_marks n) (Spells_number n)
   signed-given (pos n) small =
       gives-both {P = λ b. b ≡ false} {Q = λ w. w ≡ decimal n} (gives-right (gives-ret false refl))
       (gives-tok false refl (any_of c.Integer) (λ t. t.text) c.Integer (decimal n)
-      (tidy-token c.Integer (decimal n) (decimal-spelled n small) refl)
+      (tidy-token c.Integer (decimal n) (decimal-spelled n (wide n small)) refl)
       (λ place. pass-any c.Integer (decimal n) place) (λ place. refl))
       (λ b w p q. rw (p, q) (ap pos (decimal-back n small), decimal-digits n small))
   signed-given (negsuc n) small = record {
     tidy = record {
-      spelled = (spells-by c.Minus (codes "-") refl, (decimal-spelled (suc n) small, tt));
+      spelled = (sign-spelled c.Minus refl, (decimal-spelled (suc n) (wide (suc n) small), tt));
       apart = refl;
       first = refl;
       last = refl;
@@ -94,25 +94,23 @@ module _ (al : Aliases) (room : ℕ) where
   HasKind kind o = (t : ValueCst) × (o ≡ Some t) × HasValue al t (leaf (h.Int kind))
 
   number-value : (kind : IntKind) (n : ℤ) → residue kind n ≡ Some n
-      → (negative : Bool) (w : Text) (o : Option ValueCst)
-      → signed_number negative w ≡ n → HasKind kind o → FormHas al (leaf (h.Number kind n))
-      (node.Number negative w o)
+      → (negative : Bool) (w : Text) (o : Option ValueCst) → signed_number negative w ≡ n
+      → HasKind kind o → FormHas al (leaf (h.Number kind n)) (node.Number negative w o)
   number-value kind n k negative w o s (t, e, v) =
       ap (λ o. node_value al (node.Number negative w o)) e ∙ of-number al negative w t
       ∙ ap (λ v. option_map leaf (number_head negative w (Some v))) v
       ∙ ap (λ m. option_map leaf (option_map (λ n. h.Number kind n) (residue kind m))) s
       ∙ ap (λ r. option_map leaf (option_map (λ n. h.Number kind n) r)) k
 
-  type-behind-given : (kind : IntKind) → IsIntType kind → GivesAt room syntax.type_behind
-      (a_sign c.Colon ++ a_word (int_text kind)) (HasKind kind)
+  type-behind-given : (kind : IntKind) → IsIntType kind
+      → GivesAt room syntax.type_behind (a_sign c.Colon ++ a_word (int_text kind)) (HasKind kind)
   type-behind-given kind w = gives-left (gives-made (given-before (given-sign refl)
       (form-placed al room
       (gives-left (type-word-given al room (int_text kind) (h.Int kind) (int-word kind w)))))
       (λ t q. (t, refl, q)))
 
   plain-number-readable : (kind : IntKind) (n : ℤ) → is_truth_kind kind ≡ false → IsIntType kind
-      → IsKept kind n
-      → Readable al (suc room) (leaf (h.Number kind n))
+      → IsKept kind n → Readable al (suc room) (leaf (h.Number kind n))
   plain-number-readable kind n no_truth w k = attr-readable al room (leaf (h.Number kind n)) refl
       (λ e. absurd (cc))
       (gives-right (gives-right (gives-right (gives-left
@@ -128,11 +126,12 @@ module _ (al : Aliases) (room : ℕ) where
   truth-readable n (inl e) =
       subst (λ (n : ℤ). Readable al (suc room) (leaf (h.Number (Signless 1) n))) (sym e)
       (attr-readable al room (leaf (h.Number (Signless 1) (pos 0))) refl (λ e. absurd (cc))
-      (attr-word-given al room (codes "false") _ (fixed-word (codes "false") refl) refl false-head))
+      (attr-word-given al room (codes "false") _ (word-spelled (codes "false") refl) refl
+      false-head))
   truth-readable n (inr e) =
       subst (λ (n : ℤ). Readable al (suc room) (leaf (h.Number (Signless 1) n))) (sym e)
       (attr-readable al room (leaf (h.Number (Signless 1) (negsuc 0))) refl (λ e. absurd (cc))
-      (attr-word-given al room (codes "true") _ (fixed-word (codes "true") refl) refl true-head))
+      (attr-word-given al room (codes "true") _ (word-spelled (codes "true") refl) refl true-head))
 
   signless-readable : (b : Bool) (w : ℕ) (n : ℤ) → (w == 1) ≡ b → IsKept (Signless w) n
       → Readable al (suc room) (leaf (h.Number (Signless w) n))
@@ -162,13 +161,13 @@ module _ (al : Aliases) (room : ℕ) where
       subst (λ (n : ℤ). GivesAt room syntax.item (a_word (truth_text n)) (λ i. Keeps 1 i n)) (sym e)
       (gives-placed (gives-left (gives-made {Q = λ x. x.1 ≡ codes "false"}
       (given-one-of (codes "true") (codes "false" ∷ []) (codes "false")
-      (fixed-word (codes "false") refl) refl) (λ w q. q)))
+      (word-spelled (codes "false") refl) refl) (λ w q. q)))
       (λ place x q. rw q refl))
   truth-item-given n (inr e) =
       subst (λ (n : ℤ). GivesAt room syntax.item (a_word (truth_text n)) (λ i. Keeps 1 i n)) (sym e)
       (gives-placed (gives-left (gives-made {Q = λ x. x.1 ≡ codes "true"}
       (given-one-of (codes "true") (codes "false" ∷ []) (codes "true")
-      (fixed-word (codes "true") refl) refl) (λ w q. q)))
+      (word-spelled (codes "true") refl) refl) (λ w q. q)))
       (λ place x q. rw q refl))
 
   number-item-given : (width : ℕ) (n : ℤ) → (width == 1) ≡ false → IsKept (Signless width) n
@@ -225,7 +224,7 @@ module _ (al : Aliases) (room : ℕ) where
       (λ e. absurd (cc))
       (gives-right
       (gives-right (gives-right (gives-right (gives-right (gives-right (gives-right (gives-right
-      (gives-made (given-before (given-word (codes "array") (fixed-word (codes "array") refl))
+      (gives-made (given-before (given-word (codes "array") (word-spelled (codes "array") refl))
       (given-angles
       (gives-both {R = λ x. (x.0 ≡ width) × AllZip (Keeps width) x.1 ns}
       (gives-made {Q = λ k. k ≡ width}

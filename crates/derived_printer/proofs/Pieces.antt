@@ -27,29 +27,24 @@ only false e = absurd (cc)
 
 module _ {Inside : (x : Sort) → Tokens → ValueCst → Type 0} {none : Bool} where
   pub given-parens : {A : Type 0} {g : OfValues A} {ms : Marks} {P : A → Type 0}
-      → Gives Inside none g ms P
-      → Gives Inside none (syntax.in_parens g) (in_parens ms) P
+      → Gives Inside none g ms P → Gives Inside none (syntax.in_parens g) (in_parens ms) P
   given-parens x = given-before (given-sign refl) (given-behind x (given-sign refl))
 
   pub given-angles : {A : Type 0} {g : OfValues A} {ms : Marks} {P : A → Type 0}
-      → Gives Inside none g ms P
-      → Gives Inside none (syntax.in_angles g) (in_angles ms) P
+      → Gives Inside none g ms P → Gives Inside none (syntax.in_angles g) (in_angles ms) P
   given-angles x = given-before (given-sign refl) (given-behind x (given-sign refl))
 
   pub given-squares : {A : Type 0} {g : OfValues A} {ms : Marks} {P : A → Type 0}
-      → Gives Inside none g ms P
-      → Gives Inside none (syntax.in_squares g) (in_squares ms) P
+      → Gives Inside none g ms P → Gives Inside none (syntax.in_squares g) (in_squares ms) P
   given-squares x = given-before (given-sign refl) (given-behind x (given-sign refl))
 
   pub given-braces : {A : Type 0} {g : OfValues A} {ms : Marks} {P : A → Type 0}
-      → Gives Inside none g ms P
-      → Gives Inside none (syntax.in_braces g) (in_braces ms) P
+      → Gives Inside none g ms P → Gives Inside none (syntax.in_braces g) (in_braces ms) P
   given-braces x = given-before (given-sign refl) (given-behind x (given-sign refl))
 
   -- one of these words
-  pub given-one-of : (w : Text) (ws : List Text) (x : Text) → Spells c.Word x → is_among (w ∷ ws) x
-      ≡ true
-      → Gives Inside none (one_of w ws) (a_word x) (λ y. y ≡ x)
+  pub given-one-of : (w : Text) (ws : List Text) (x : Text) → Spells c.Word x
+      → is_among (w ∷ ws) x ≡ true → Gives Inside none (one_of w ws) (a_word x) (λ y. y ≡ x)
   given-one-of w [] x s e = gives-tok false refl (word w) (λ t. t.text) c.Word x
       (tidy-token c.Word x s refl)
       (λ place. word-passes _ (only _ e)) (λ place. refl)
@@ -70,8 +65,8 @@ module _ {Inside : (x : Sort) → Tokens → ValueCst → Type 0} {none : Bool} 
       → Gives Inside none type_word (a_word w) (λ y. y ≡ w)
   given-type-word w s e = go (is_integer_word w) refl e
     where
-      go : (b : Bool) → is_integer_word w ≡ b → (b || is_among (codes "index" ∷ type_words) w)
-          ≡ true
+      go : (b : Bool) → is_integer_word w ≡ b
+          → (b || is_among (codes "index" ∷ type_words) w) ≡ true
           → Gives Inside none type_word (a_word w) (λ y. y ≡ w)
       go true q e =
           gives-left (gives-tok false refl look.int_word (λ t. t.text) c.Word w

@@ -19,7 +19,7 @@ use Rattle.text_layout.proofs.Gives.{gives-left, gives-right, gives-placed, give
 use Rattle.value_meaning.specs.Meaning.{Aliases, seen, value_of, values_of, leaf, made_of}
 use Rattle.derived_printer.specs.ReadBack.{is_function}
 use Rattle.derived_printer.specs.ValueMarks.{Marks, commas, is_unit_head, value_marks}
-use Rattle.derived_printer.proofs.Kids.{kids-of-list}
+use Rattle.derived_printer.proofs.KidMarks.{kids-of-list}
 use Rattle.derived_printer.proofs.Nesting.{within}
 use Rattle.derived_printer.proofs.Signs.{given-list}
 use Rattle.derived_printer.proofs.Trees.{node_value, of-at}
@@ -54,14 +54,12 @@ module _ (al : Aliases) where
 
     -- a form at the place of its first token
     pub form-placed : {g : OfValues ValueNode} {ms : Marks} {v : Value}
-        → GivesAt room g ms (FormHas v)
-        → GivesAt room (placed node_at g) ms (λ t. HasValue t v)
+        → GivesAt room g ms (FormHas v) → GivesAt room (placed node_at g) ms (λ t. HasValue t v)
     form-placed g = gives-placed g (λ place n p. of-at al place n ∙ p)
 
     -- of a type that doesn't begin with a parenthesis
-    pub plain-readable : (v : Value) → is_unit_head v.head ≡ false → GivesAt room syntax.plain_node
-        (value_marks v) (FormHas v)
-        → Readable (suc room) v
+    pub plain-readable : (v : Value) → is_unit_head v.head ≡ false
+        → GivesAt room syntax.plain_node (value_marks v) (FormHas v) → Readable (suc room) v
     plain-readable v u x = record {
       as_type = λ t. by-rule {x = a_type} (form-placed (gives-left x));
       as_plain = λ t other. by-rule {x = plain} (form-placed x);
@@ -96,8 +94,8 @@ module _ (al : Aliases) where
         → GivesAt room (inner a_type) (value_marks v) (λ t. HasValue t v)
     type-given v b t = gives-kid (b.as_type t) (λ t p. p)
 
-    pub attr-given : (v : Value) → Readable room v → GivesAt room (inner an_attr) (value_marks v)
-        (λ t. HasValue t v)
+    pub attr-given : (v : Value) → Readable room v
+        → GivesAt room (inner an_attr) (value_marks v) (λ t. HasValue t v)
     attr-given v b = gives-kid b.as_attr (λ t p. p)
 
     each-type : (vs : List Value) → AllByRecursion (Readable room) vs → AllByRecursion IsType vs
@@ -136,8 +134,7 @@ module _ (al : Aliases) where
 
   -- the same of two lists
   pub both-spelled : (ts us : List ValueCst) (vs ws : List Value) → AllZip HasValue ts vs
-      → AllZip HasValue us ws
-      → values_of (map (seen al) ts ++ map (seen al) us) ≡ Some (vs ++ ws)
+      → AllZip HasValue us ws → values_of (map (seen al) ts ++ map (seen al) us) ≡ Some (vs ++ ws)
   both-spelled [] us [] ws q r = all-spelled us ws r
   both-spelled (t ∷ ts) us (v ∷ vs) ws (p, q) r = rw (p, both-spelled ts us vs ws q r) refl
   both-spelled [] us (v ∷ vs) ws q r = absurd q
@@ -152,7 +149,6 @@ module _ (al : Aliases) where
 
   -- the value of kids that are all spelled
   pub made-of-kids : (head : Head) (kids : Values) (o : Option (List Value))
-      → o ≡ Some (list_of kids)
-      → option_map (made_of head) o ≡ Some (value head kids)
+      → o ≡ Some (list_of kids) → option_map (made_of head) o ≡ Some (value head kids)
   made-of-kids head kids o e = ap (option_map (made_of head)) e ∙ ap (λ k. Some (value head k))
       (kids-of-list kids)

@@ -18,6 +18,7 @@ use Rattle.grammar.specs.Grammar.{Tokens}
 use Rattle.grammar.specs.Looks.{any}
 use Rattle.grammar.proofs.Shallow.{within-derived}
 use Rattle.ir_lexer.specs.declared.class.Class.TheVariants as c
+use Rattle.ir_lexer.specs.Classes.{same_class}
 use Rattle.ir_lexer.specs.Spelling.{Text}
 use Rattle.ir_lexer.specs.Tokens.{Token, AreTokens}
 use Rattle.ir_lexer.proofs.Once.{one-list}
@@ -30,7 +31,7 @@ use Rattle.text_layout.proofs.ReadsBack.{layout-reads-back}
 use Rattle.text_layout.proofs.Tidy.{tidy-apart}
 use Rattle.value_meaning.specs.Meaning.{Aliases, value_of}
 use Rattle.value_meaning.specs.Spelled.{residue}
-use Rattle.derived_printer.specs.ReadBack.{is_function, EndsValue, IsReadAs, IsNumberOf, HasTokensOf}
+use Rattle.derived_printer.specs.ReadBack.{is_function, EndsValue, IsReadAs, IsNumberOf, HasTokensOf, IsTextOf}
 use Rattle.derived_printer.specs.Spellable.{Spellable, HasBytes}
 use Rattle.derived_printer.specs.ValueMarks.{number_marks, value_marks}
 use Rattle.derived_printer.proofs.Heads.{value-readable}
@@ -87,8 +88,8 @@ type-back al v r s t ts m = given-read al a_type v ts ((readable al v r s).as_ty
 
 -- as a type that doesn't begin with a parenthesis
 pub plain-back : (al : Aliases) (v : Value) → Spellable v → HasBytes v → IsType v
-    → is_function v.head ≡ false → (ts : Tokens)
-    → MarksSpell (value_marks v) ts → IsReadAs al plain v ts
+    → is_function v.head ≡ false → (ts : Tokens) → MarksSpell (value_marks v) ts
+    → IsReadAs al plain v ts
 plain-back al v r s t f ts m = given-read al plain v ts ((readable al v r s).as_plain t f) m
 
 -- a number without its type
@@ -126,12 +127,38 @@ pub tokens-back : (v : Value) → Spellable v → HasBytes v
     → HasTokensOf (value_marks v) (layout (value_marks v))
 tokens-back v r s = tidy-tokens (value_marks v) (value-tidy v r s)
 
+-- a value doesn't go on with the end
+end-ends : (x : Sort) (end : Token) → end.class ≡ c.End → any (value_more_looks x) end ≡ false
+unfolding same_class
+end-ends a_type end e = rw e refl
+end-ends plain end e = rw e refl
+end-ends an_attr end e = rw e refl
+
+-- the text of a value is read as it
+pub text-back : (al : Aliases) (v : Value) → Spellable v → HasBytes v
+    → IsTextOf al v (layout (value_marks v))
+text-back al v r s = let x = tokens-back v r s in let y = attr-back al v r s x.front x.spell in
+    record {
+      tokens = x.front ++ x.end ∷ [];
+      tree = y.tree;
+      end = x.end;
+      are = x.are;
+      read = y.front (x.end ∷ []) (λ t more is. ends-with x.end t more x.ends is);
+      value = y.value;
+      ends = x.ends;
+    }
+  where
+    ends-with : (end t : Token) (more : Tokens) → end.class ≡ c.End → end ∷ [] ≡ t ∷ more
+        → any (value_more_looks an_attr) t ≡ false
+    ends-with end t more e is = let same : end ≡ t = cc in
+        subst (λ (t : Token). any (value_more_looks an_attr) t ≡ false) same
+        (end-ends an_attr end e)
+
 -- ---- equal values
 
 -- values with the same tokens are equal
 pub same-tokens : (v w : Value) → Spellable v → HasBytes v → Spellable w → HasBytes w
-    → (ts : Tokens) → MarksSpell (value_marks v) ts
-    → MarksSpell (value_marks w) ts → v ≡ w
+    → (ts : Tokens) → MarksSpell (value_marks v) ts → MarksSpell (value_marks w) ts → v ≡ w
 same-tokens v w r s q p ts m l =
     let x = attr-back no_aliases v r s ts m in
     let y = attr-back no_aliases w q p ts l in

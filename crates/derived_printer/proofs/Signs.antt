@@ -5,19 +5,18 @@ use Rattle.std.specs.List.{AllByRecursion, AllZip}
 use Rattle.grammar.specs.Grammar.{G, Tokens, both}
 use Rattle.grammar.specs.Looks.{any_of, word, passes}
 use Rattle.grammar.specs.Rules.{punct, keyword, ◌>>◌, ◌<<◌, list, more_of}
-use Rattle.grammar.proofs.Meet.{and-true}
+use Rattle.grammar.proofs.Meet.{and-true, not-true}
 use Rattle.ir_lexer.specs.declared.class.Class.{Class}
 use Rattle.ir_lexer.specs.declared.class.Class.TheVariants as c
-use Rattle.ir_lexer.specs.Spelling.{Text, Spells, spelling}
-use Rattle.ir_lexer.proofs.Derive.{behind_all, takes_none}
+use Rattle.ir_lexer.specs.Spelling.{Text, Spells}
 use Rattle.ir_lexer.proofs.Machine.{same-class-refl}
-use Rattle.text_layout.specs.Apart.{is_float_class}
+use Rattle.text_layout.specs.Apart.{is_empty, is_float_class}
 use Rattle.text_layout.specs.Gives.{Gives}
 use Rattle.text_layout.specs.Tidy.{begins_alone, ends_alone, Tidy}
 use Rattle.text_layout.proofs.Gives.{token_at, joined, gives-ret, gives-tok, gives-both, gives-left, gives-right, gives-star, gives-same}
 use Rattle.text_layout.proofs.Tidy.{tidy-token}
 use Rattle.derived_printer.specs.ValueMarks.{Marks, sign_text, a_sign, a_word, behind_signs, commas}
-use Rattle.derived_printer.proofs.Strings.{spells-by}
+use Rattle.derived_printer.proofs.Spelled.{sign-spelled}
 
 -- a token of a class passes the look for it
 pub pass-any : (class : Class) (text : Text) (place : ℕ)
@@ -27,16 +26,16 @@ pass-any class text place = rw (same-class-refl class) refl
 pub pass-word : (w : Text) (place : ℕ) → passes (word w) (token_at c.Word w place) ≡ true
 pass-word w place = rw (same-class-refl c.Word, (bytes_eq-Decides w w).1 refl) refl
 
--- a sign of the class spells it, and may stand beside others: a test that computes
+-- the class is that of a sign, which may stand beside others: a test that computes
 abbrev stands_alone : Class → Bool
 stands_alone class =
-    takes_none (behind_all (sign_text class) (spelling class))
+    not (is_empty (sign_text class))
     && (not (is_float_class class) && (begins_alone class && ends_alone class))
 
 sign-tidy : (class : Class) → stands_alone class ≡ true → Tidy (a_sign class)
-sign-tidy class e = let h = and-true (takes_none (behind_all (sign_text class) (spelling class))) _
-    e in
-    tidy-token class (sign_text class) (spells-by class (sign_text class) h.0) h.1
+sign-tidy class e = let h = and-true (not (is_empty (sign_text class))) _ e in
+    tidy-token class (sign_text class)
+    (sign-spelled class (not-true (is_empty (sign_text class)) h.0)) h.1
 
 -- the marks of a list with commas are those of each behind one
 same-commas : {B : Type 0} (marks : B → Marks) (bs : List B)
@@ -47,15 +46,15 @@ same-commas marks (b ∷ bs) = ap (λ w. (a_sign c.Comma ++ marks b) ++ w) (same
 module _ {X : Type 0} {Sem : X → Type 0} {Inside : (x : X) → Tokens → Sem x → Type 0}
     {none : Bool} where
   -- a sign
-  pub given-sign : {class : Class} → stands_alone class ≡ true → Gives Inside none (punct class)
-      (a_sign class) (λ _. Unit {0})
+  pub given-sign : {class : Class} → stands_alone class ≡ true
+      → Gives Inside none (punct class) (a_sign class) (λ _. Unit {0})
   given-sign {class = class} e = gives-tok false refl (any_of class) (λ _. tt) class
       (sign_text class) (sign-tidy class e)
       (λ place. pass-any class (sign_text class) place) (λ place. tt)
 
   -- a word
-  pub given-word : (w : Text) → Spells c.Word w → Gives Inside none (keyword w) (a_word w)
-      (λ _. Unit {0})
+  pub given-word : (w : Text) → Spells c.Word w
+      → Gives Inside none (keyword w) (a_word w) (λ _. Unit {0})
   given-word w e = gives-tok false refl (word w) (λ _. tt) c.Word w (tidy-token c.Word w e refl)
       (λ place. pass-word w place) (λ place. tt)
 

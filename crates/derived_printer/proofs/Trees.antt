@@ -40,8 +40,8 @@ module _ (al : Aliases) where
       ∙ fold-roll-ValueNode NodeSeen EntrySeen Seen (node_layer al) (entry_layer al)
       (value_layer al) (ValueNode-F.Str bytes))
 
-  pub of-symbol : (parts : List Text) → node_value al (node.Symbol parts)
-      ≡ Some (leaf (h.Symbol parts))
+  pub of-symbol : (parts : List Text)
+      → node_value al (node.Symbol parts) ≡ Some (leaf (h.Symbol parts))
   unfolding node_seen
   of-symbol parts = ap (λ s. s.value) (ap (node_seen al) (sym (node.rolls-Symbol parts))
       ∙ fold-roll-ValueNode NodeSeen EntrySeen Seen (node_layer al) (entry_layer al)
@@ -56,29 +56,30 @@ module _ (al : Aliases) where
       ∙ fold-roll-ValueNode NodeSeen EntrySeen Seen (node_layer al) (entry_layer al)
       (value_layer al) (ValueNode-F.Number negative digits (Some t)))
 
-  pub of-dense : (width : ℕ) (items : List ItemCst) → node_value al (node.Dense width items)
-      ≡ option_map (λ ns. leaf (h.Dense width ns)) (all_some (map (dense_item width) items))
+  pub of-dense : (width : ℕ) (items : List ItemCst)
+      → node_value al (node.Dense width items) ≡ option_map (λ ns. leaf (h.Dense width ns))
+      (all_some (map (dense_item width) items))
   unfolding node_seen
   of-dense width items = ap (λ s. s.value) (ap (node_seen al) (sym (node.rolls-Dense width items))
       ∙ fold-roll-ValueNode NodeSeen EntrySeen Seen (node_layer al) (entry_layer al)
       (value_layer al) (ValueNode-F.Dense width items))
 
-  pub of-array : (vs : List ValueCst) → node_value al (node.Array vs) ≡ option_map (made_of h.Array)
-      (values_of (map (seen al) vs))
+  pub of-array : (vs : List ValueCst)
+      → node_value al (node.Array vs) ≡ option_map (made_of h.Array) (values_of (map (seen al) vs))
   unfolding seen node_seen
   of-array vs = ap (λ s. s.value) (ap (node_seen al) (sym (node.rolls-Array vs))
       ∙ fold-roll-ValueNode NodeSeen EntrySeen Seen (node_layer al) (entry_layer al)
       (value_layer al) (ValueNode-F.Array vs))
 
-  pub of-tuple : (vs : List ValueCst) → node_value al (node.Tuple vs) ≡ option_map (made_of h.Tuple)
-      (values_of (map (seen al) vs))
+  pub of-tuple : (vs : List ValueCst)
+      → node_value al (node.Tuple vs) ≡ option_map (made_of h.Tuple) (values_of (map (seen al) vs))
   unfolding seen node_seen
   of-tuple vs = ap (λ s. s.value) (ap (node_seen al) (sym (node.rolls-Tuple vs))
       ∙ fold-roll-ValueNode NodeSeen EntrySeen Seen (node_layer al) (entry_layer al)
       (value_layer al) (ValueNode-F.Tuple vs))
 
-  pub of-complex : (v : ValueCst) → node_value al (node.Complex v) ≡ option_map (made_of h.Complex)
-      (values_of (seen al v ∷ []))
+  pub of-complex : (v : ValueCst)
+      → node_value al (node.Complex v) ≡ option_map (made_of h.Complex) (values_of (seen al v ∷ []))
   unfolding seen node_seen
   of-complex v = ap (λ s. s.value) (ap (node_seen al) (sym (node.rolls-Complex v))
       ∙ fold-roll-ValueNode NodeSeen EntrySeen Seen (node_layer al) (entry_layer al)
@@ -93,7 +94,8 @@ module _ (al : Aliases) where
       ∙ fold-roll-ValueNode NodeSeen EntrySeen Seen (node_layer al) (entry_layer al)
       (value_layer al) (ValueNode-F.Dialect is_type name vs))
 
-  pub of-function : (ins outs : List ValueCst) → node_value al (node.Function ins outs) ≡ option_map
+  pub of-function : (ins outs : List ValueCst)
+      → node_value al (node.Function ins outs) ≡ option_map
       (made_of (h.Function (length (map (seen al) ins))))
       (values_of (map (seen al) ins ++ map (seen al) outs))
   unfolding seen node_seen
@@ -110,8 +112,8 @@ module _ (al : Aliases) where
       ∙ fold-roll-ValueNode NodeSeen EntrySeen Seen (node_layer al) (entry_layer al)
       (value_layer al) (ValueNode-F.Shaped kind dims v))
 
-  pub of-dict : (es : List EntryCst) → node_value al (node.Dict es) ≡ dict_value
-      (map (entry_seen al) es)
+  pub of-dict : (es : List EntryCst)
+      → node_value al (node.Dict es) ≡ dict_value (map (entry_seen al) es)
   unfolding entry_seen node_seen
   of-dict es = ap (λ s. s.value) (ap (node_seen al) (sym (node.rolls-Dict es))
       ∙ fold-roll-ValueNode NodeSeen EntrySeen Seen (node_layer al) (entry_layer al)
@@ -127,8 +129,8 @@ module _ (al : Aliases) where
       (record { place = place; key = key; value = Some v }))
 
   -- and one without
-  pub of-key : (place : ℕ) (key : Text) → entry_value (entry_seen al (entry_at place (key, None)))
-      ≡ Some (key, leaf h.Unit)
+  pub of-key : (place : ℕ) (key : Text)
+      → entry_value (entry_seen al (entry_at place (key, None))) ≡ Some (key, leaf h.Unit)
   unfolding entry_seen
   of-key place key = ap entry_value
       (fold-roll-EntryCst NodeSeen EntrySeen Seen (node_layer al) (entry_layer al) (value_layer al)

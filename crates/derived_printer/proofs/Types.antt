@@ -24,13 +24,14 @@ use Rattle.value_meaning.specs.Meaning.{Aliases, seen, values_of, leaf, made_of}
 use Rattle.value_meaning.specs.Spelled.{word_head, all_some, dim_of}
 use Rattle.derived_printer.specs.Spelling.{shape_text, dims_text}
 use Rattle.derived_printer.specs.ValueMarks.{Marks, Kid, a_sign, a_word, commas, in_parens, in_angles, is_unit_head, dims_marks, marks_of, head_marks, kid_marks, value_marks}
-use Rattle.derived_printer.proofs.Dims.{dims-spelled, dims-back}
-use Rattle.derived_printer.proofs.Kids.{all-marks, take-marks, drop-marks, all-take, all-drop}
+use Rattle.derived_printer.proofs.Dims.{dims-back}
+use Rattle.derived_printer.proofs.KidMarks.{all-marks, take-marks, drop-marks, all-take, all-drop}
 use Rattle.derived_printer.proofs.Pieces.{given-parens, given-angles, given-type-word}
 use Rattle.derived_printer.proofs.Readable.{GivesAt, HasValue, FormHas, Readable, plain-readable, function-readable, type-given, types-given, all-spelled, both-spelled, as-many, made-of-kids}
 use Rattle.derived_printer.proofs.Signs.{pass-any, given-sign, given-word, given-before}
+use Rattle.derived_printer.proofs.Spelled.{word-spelled, shape-bare, dims-spelled}
 use Rattle.derived_printer.proofs.Trees.{of-word, of-tuple, of-complex, of-function, of-shaped}
-use Rattle.derived_printer.proofs.Words.{IsTypeWord, fixed-word, shape-word}
+use Rattle.derived_printer.proofs.Words.{IsTypeWord}
 
 module _ (al : Aliases) (room : ℕ) where
   -- ---- words
@@ -48,9 +49,8 @@ module _ (al : Aliases) (room : ℕ) where
       gives-left (gives-made (given-type-word w t.spelled t.found)
       (λ x e. word-value w x head e t.is))
 
-  pub word-readable : (head : Head) (w : Text) → is_unit_head head ≡ false → value_marks (leaf head)
-      ≡ a_word w → IsTypeWord w head
-      → Readable al (suc room) (leaf head)
+  pub word-readable : (head : Head) (w : Text) → is_unit_head head ≡ false
+      → value_marks (leaf head) ≡ a_word w → IsTypeWord w head → Readable al (suc room) (leaf head)
   word-readable head w u e t =
       plain-readable al room (leaf head) u (gives-same (sym e) (type-word-given w head t))
 
@@ -62,7 +62,7 @@ module _ (al : Aliases) (room : ℕ) where
   tuple-readable kids r b = plain-readable al room (value h.Tuple kids) refl
       (gives-right (gives-right (gives-right (gives-left
       (gives-same (ap (λ l. a_word (codes "tuple") ++ in_angles (commas l)) (all-marks kids))
-      (gives-made (given-before (given-word (codes "tuple") (fixed-word (codes "tuple") refl))
+      (gives-made (given-before (given-word (codes "tuple") (word-spelled (codes "tuple") refl))
       (given-angles (types-given al room (list_of kids) b (r.types refl))))
       (λ ts q. of-tuple al ts ∙ made-of-kids al h.Tuple kids _
       (all-spelled al ts (list_of kids) q))))))))
@@ -73,7 +73,7 @@ module _ (al : Aliases) (room : ℕ) where
       (gives-right (gives-right (gives-right (gives-right (gives-left
       (gives-same (ap (λ l. a_word (codes "complex") ++ in_angles l)
       (sym (append-nil (value_marks v))))
-      (gives-made (given-before (given-word (codes "complex") (fixed-word (codes "complex") refl))
+      (gives-made (given-before (given-word (codes "complex") (word-spelled (codes "complex") refl))
       (given-angles (type-given al room v b t)))
       (λ x q. of-complex al x ∙ rw q refl))))))))
 
@@ -91,8 +91,7 @@ module _ (al : Aliases) (room : ℕ) where
 
   -- trees of inputs and of results have the value of the function type
   function-value : (n : ℕ) (kids : Values) → OwnRule (h.Function n) (list_of kids)
-      → (x : List ValueCst × List ValueCst)
-      → AllZip (HasValue al) x.0 (take n (list_of kids))
+      → (x : List ValueCst × List ValueCst) → AllZip (HasValue al) x.0 (take n (list_of kids))
       → AllZip (HasValue al) x.1 (drop n (list_of kids))
       → FormHas al (value (h.Function n) kids) (function_node x)
   function-value n kids r x p q = let vs = list_of kids in
@@ -122,9 +121,8 @@ module _ (al : Aliases) (room : ℕ) where
 
   -- ---- shaped types
 
-  -- The text of a type begins with a word, a name or a parenthesis, none of which runs together
-  -- with
-  -- dimensions.
+  -- The text of a type begins with a word, a name or a parenthesis, and none of them runs together
+  -- with dimensions.
   type-behind-dims : (head : Head) (ks : List Kid) → is_type_head head ≡ true
       → clash_never None (head_marks head ks) ≡ true
       → clash_never (Some c.Dims) (head_marks head ks) ≡ true
@@ -140,8 +138,7 @@ module _ (al : Aliases) (room : ℕ) where
 
   -- it isn't empty
   type-ends : (head : Head) (ks : List Kid) → is_type_head head ≡ true
-      → last_alone true (head_marks head ks) ≡ true
-      → last_alone false (head_marks head ks) ≡ true
+      → last_alone true (head_marks head ks) ≡ true → last_alone false (head_marks head ks) ≡ true
   type-ends (h.Int kind) ks t e = e
   type-ends h.NoneType ks t e = e
   type-ends (h.Float kind) ks t e = e
@@ -194,7 +191,8 @@ module _ (al : Aliases) (room : ℕ) where
   shape-given kind ds v s b t =
       gives-same (ap (λ l. a_word (shape_text kind) ++ in_angles (dims_marks ds ++ l))
       (sym (append-nil (value_marks v))))
-      (gives-made (given-before (given-word (shape_text kind) (shape-word kind))
+      (gives-made (given-before
+      (given-word (shape_text kind) (word-spelled (shape_text kind) (shape-bare kind)))
       (given-angles (dims-given kind ds v s b t)))
       (λ x q. of-shaped al kind x.0 x.1 ∙ rw (q.0, q.1) refl))
 

@@ -6,6 +6,8 @@
 --                              value v, and none of them begins a value too deep
 --   IsNumberOf kind n ts       the tokens ts spell the number n of this kind, without its type
 --   HasTokensOf marks text     the tokens of the text are those of the marks, and the end
+--   IsTextOf aliases v text    an attribute that is read from the text has the value v, and the end
+--                              is all that stands behind it
 use Rattle.std.specs.Prelude.{◌≡◌, Bool, true, false, List, [], ◌∷◌, ◌++◌, ℤ}
 use Rattle.std.specs.declared.option.Option.TheVariants.{Some}
 use Rattle.attr_value.specs.declared.head.Head.{Head}
@@ -15,7 +17,7 @@ use Rattle.attr_value.specs.declared.kind.IntKind.{IntKind}
 use Rattle.attr_value.specs.Values.{Value}
 use Rattle.generic_syntax.specs.declared.cst.ValueCst.{ValueCst}
 use Rattle.generic_syntax.specs.Nested.{IsValue, deep, value_more_looks}
-use Rattle.generic_syntax.specs.Values.{Sort, signed}
+use Rattle.generic_syntax.specs.Values.{Sort, an_attr, signed}
 use Rattle.grammar.specs.Front.{Shallow, Front}
 use Rattle.grammar.specs.Grammar.{Tokens, Derives}
 use Rattle.grammar.specs.Looks.{any}
@@ -60,3 +62,15 @@ pub record HasTokensOf (marks : List Mark) (text : Text) : Type 0 where
   pub spell : MarksSpell marks front
   pub ends : end.class ≡ c.End
   pub are : AreTokens text (front ++ end ∷ [])
+
+-- The front of the text's tokens that is an attribute has this value, nothing in it is too deep,
+-- and
+-- the end is all that stands behind it.
+pub record IsTextOf (aliases : Aliases) (v : Value) (text : Text) : Type 0 where
+  pub tokens : Tokens
+  pub tree : ValueCst
+  pub end : Token
+  pub are : AreTokens text tokens
+  pub read : Front (IsValue an_attr) (deep DEPTH_LIMIT an_attr) tokens tree (end ∷ [])
+  pub value : value_of aliases tree ≡ Some v
+  pub ends : end.class ≡ c.End

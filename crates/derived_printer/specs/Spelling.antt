@@ -16,6 +16,7 @@
 --   truth_text n          a number of one bit
 --   name_text t name      the name of a dialect's value, with its sign
 use Rattle.std.specs.Prelude.{ℕ, ◌+◌, ◌/◌, ◌%◌, Bool, true, false, not, ◌&&◌, ◌||◌, ◌==◌, nat_lt, List, [], ◌∷◌, ◌++◌, ℤ, pos, negsuc, if◌then◌else◌, cond, codes, decimal}
+use Rattle.std.specs.List.{flat_map}
 use Rattle.attr_value.specs.declared.kind.IntKind.{IntKind}
 use Rattle.attr_value.specs.declared.kind.IntKind.TheVariants.{Index, Signless, Signed, Unsigned}
 use Rattle.attr_value.specs.declared.kind.FloatKind.{FloatKind}
@@ -49,8 +50,7 @@ escaped_byte b =
 
 -- what stands for bytes in a string
 abbrev pub escaped : Text → Text
-escaped [] = []
-escaped (b ∷ t) = escaped_byte b ++ escaped t
+escaped bytes = flat_map escaped_byte bytes
 
 -- a string, in its quotes
 unfoldable pub string_text : Text → Text
@@ -120,8 +120,7 @@ dim_text Unknown = codes "?x"
 
 -- dimensions, one behind another
 unfoldable pub dims_text : List Dim → Text
-dims_text [] = []
-dims_text (d ∷ ds) = dim_text d ++ dims_text ds
+dims_text dims = flat_map dim_text dims
 
 -- ---- the rest
 

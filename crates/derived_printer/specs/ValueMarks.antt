@@ -11,19 +11,20 @@
 --   arrays               the kids in `[` and `]`
 --   dictionaries         the entries in `{` and `}`, in the order of the keys, which ascend
 --   symbols              the parts, with `::` between them
---   dense arrays         `array`, and in `<` and `>` the type, and `:` and the items where there are
+--   dense arrays         `array`, and in `<` and `>` the type, and `:` and the items if there are
 --                        some
---   dialects' values     the name, and the parameters in `<` and `>` where there are some
+--   dialects' values     the name, and the parameters in `<` and `>` if there are some
 --
 --   head_marks head kids   the marks of a head over what its kids gave
 --   value_marks v          the marks of a value
 use Rattle.std.specs.Prelude.{ℕ, suc, Bool, true, false, ◌==◌, List, [], ◌∷◌, ◌++◌, map, take, drop, ℤ, pos, negsuc, cond, codes, decimal}
-use Rattle.std.specs.List.{zip}
+use Rattle.std.specs.List.{zip, flat_map}
 use Rattle.attr_value.specs.declared.head.Head.{Head}
 use Rattle.attr_value.specs.declared.head.Head.TheVariants as h
 use Rattle.attr_value.specs.declared.kind.Dim.{Dim}
 use Rattle.attr_value.specs.declared.kind.IntKind.{IntKind}
 use Rattle.attr_value.specs.declared.kind.IntKind.TheVariants.{Signless}
+use Rattle.attr_value.specs.declared.kind.ShapeKind.{ShapeKind}
 use Rattle.attr_value.specs.Values.{Value, Values, none, more}
 use Rattle.ir_lexer.specs.declared.class.Class.{Class}
 use Rattle.ir_lexer.specs.declared.class.Class.TheVariants as c
@@ -64,8 +65,7 @@ a_word w = token c.Word w ∷ []
 
 -- pieces, each behind a sign
 abbrev pub behind_signs : Class → List Marks → Marks
-behind_signs class [] = []
-behind_signs class (p ∷ ps) = (a_sign class ++ p) ++ behind_signs class ps
+behind_signs class ps = flat_map (λ p. a_sign class ++ p) ps
 
 -- pieces with a sign between them
 abbrev pub between_signs : Class → List Marks → Marks
@@ -110,11 +110,16 @@ typed_number_marks kind n =
 abbrev pub item_marks : ℕ → ℤ → Marks
 item_marks width n = cond (width == 1) (a_word (truth_text n)) (number_marks n)
 
+-- `:` and the items, if there are any
+abbrev pub items_behind : ℕ → List ℤ → Marks
+items_behind width items =
+    unless_empty items (a_sign c.Colon ++ commas (map (item_marks width) items))
+
 -- a dense array
 abbrev pub dense_marks : ℕ → List ℤ → Marks
 dense_marks width items =
-    a_word (codes "array") ++ in_angles (a_word (int_text (Signless width))
-    ++ unless_empty items (a_sign c.Colon ++ commas (map (item_marks width) items)))
+    a_word (codes "array")
+    ++ in_angles (a_word (int_text (Signless width)) ++ items_behind width items)
 
 -- a part of a symbol
 abbrev pub part_marks : Text → Marks
@@ -146,6 +151,25 @@ entry_marks e =
     token (key_class e.0) (key_text e.0)
     ∷ cond (is_unit_head e.1.0) [] (a_sign c.Equal ++ e.1.1)
 
+-- ---- heads with kids
+
+-- a function type, whose results stand in parentheses even where there is one
+abbrev pub function_marks : ℕ → List Kid → Marks
+function_marks inputs kids =
+    in_parens (commas (marks_of (take inputs kids)))
+    ++ (a_sign c.Arrow ++ in_parens (commas (marks_of (drop inputs kids))))
+
+-- a shaped type
+abbrev pub shaped_marks : ShapeKind → List Dim → List Kid → Marks
+shaped_marks kind dims kids =
+    a_word (shape_text kind) ++ in_angles (dims_marks dims ++ commas (marks_of kids))
+
+-- a dialect's type or attribute, which has no `<` where it has no parameters
+abbrev pub dialect_marks : Bool → Text → List Kid → Marks
+dialect_marks is_type name kids =
+    token (name_class is_type) (name_text is_type name)
+    ∷ unless_empty kids (in_angles (commas (marks_of kids)))
+
 -- ---- values
 
 -- the marks of a head, over what its kids gave
@@ -153,13 +177,10 @@ abbrev pub head_marks : Head → List Kid → Marks
 head_marks (h.Int kind) kids = a_word (int_text kind)
 head_marks h.NoneType kids = a_word (codes "none")
 head_marks (h.Float kind) kids = a_word (float_text kind)
-head_marks (h.Function inputs) kids =
-    in_parens (commas (marks_of (take inputs kids)))
-    ++ (a_sign c.Arrow ++ in_parens (commas (marks_of (drop inputs kids))))
+head_marks (h.Function inputs) kids = function_marks inputs kids
 head_marks h.Tuple kids = a_word (codes "tuple") ++ in_angles (commas (marks_of kids))
 head_marks h.Complex kids = a_word (codes "complex") ++ in_angles (commas (marks_of kids))
-head_marks (h.Shaped kind dims) kids =
-    a_word (shape_text kind) ++ in_angles (dims_marks dims ++ commas (marks_of kids))
+head_marks (h.Shaped kind dims) kids = shaped_marks kind dims kids
 head_marks (h.Number kind n) kids = typed_number_marks kind n
 head_marks (h.Str bytes) kids = token c.Str (string_text bytes) ∷ []
 head_marks h.Unit kids = a_word (codes "unit")
@@ -167,9 +188,7 @@ head_marks h.Array kids = in_squares (commas (marks_of kids))
 head_marks (h.Dict keys) kids = in_braces (commas (map entry_marks (zip keys kids)))
 head_marks (h.Symbol parts) kids = symbol_marks parts
 head_marks (h.Dense width items) kids = dense_marks width items
-head_marks (h.Dialect is_type name) kids =
-    token (name_class is_type) (name_text is_type name)
-    ∷ unless_empty kids (in_angles (commas (marks_of kids)))
+head_marks (h.Dialect is_type name) kids = dialect_marks is_type name kids
 
 -- what each of some kids gives
 abbrev pub kid_marks : Values → List Kid

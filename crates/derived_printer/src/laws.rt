@@ -7,6 +7,7 @@ ghost use Rattle.attr_value.specs.Heads.{IsType};
 ghost use Rattle.attr_value.specs.Numbers.{IsKept};
 ghost use Rattle.attr_value.specs.Values.{Value};
 ghost use Rattle.derived_printer.specs.ReadBack.{is_function, IsReadAs, IsNumberOf, HasTokensOf};
+ghost use Rattle.derived_printer.specs.ReadBack.{IsTextOf};
 ghost use Rattle.derived_printer.specs.Spellable.{Spellable, HasBytes};
 ghost use Rattle.derived_printer.specs.ValueMarks.{number_marks, value_marks};
 ghost use Rattle.generic_syntax.specs.Values.{a_type, plain, an_attr};
@@ -18,6 +19,9 @@ ghost use Rattle.value_meaning.specs.Meaning.{Aliases};
 /// The canonical text of a value has the value again, wherever it stands and whatever aliases there
 /// are.
 pub fn value_reads_back()
+    // What is read from the text, where an attribute is asked, is the value and all of the text.
+    ensures text { (aliases : Aliases) (v : Value) → Spellable v → HasBytes v →
+        IsTextOf aliases v (layout (value_marks v)) }
     // The tokens of the text are those of the value, and the end.
     ensures tokens { (v : Value) → Spellable v → HasBytes v →
         HasTokensOf (value_marks v) (layout (value_marks v)) }
