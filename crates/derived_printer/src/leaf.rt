@@ -1,14 +1,28 @@
-//! Values that have several parts, and no value in them: symbols and dense arrays.
+//! Values that hold no value: the unit attribute, symbols and dense arrays.
 
-ghost use Rattle.std.specs.Prelude.{◌≡◌, map};
+ghost use Rattle.std.specs.Prelude.{◌≡◌, ◌<◌, length, map};
+ghost use Rattle.attr_value.specs.Ids.{at};
 ghost use Rattle.derived_printer.specs.Prints.{Prints};
 ghost use Rattle.derived_printer.specs.ValueMarks as mark;
 
 use crate::token::{int_type, number, part, separate, sign, truth, word};
-use attr_value::{IntKind, Text};
+use attr_uniquer::Uniquer;
+use attr_value::{Head, IntKind, Text, ValueId};
 use ir_lexer::Class;
 use irdl_bytes::Sink;
 use text_layout::{Layout, PrintError};
+
+/// Whether a value is the unit attribute.
+pub fn is_unit(u: &Uniquer, id: ValueId) -> bool
+    requires { id.0 < length u.now }
+    ensures { result ≡ mark.is_unit_head (at u.now id.0).head }
+{
+    let (head, _) = u.view(id);
+    match head {
+        Head::Unit => true,
+        _ => false,
+    }
+}
 
 /// Lays a symbol down, by its parts.
 pub fn symbol<S: Sink>(

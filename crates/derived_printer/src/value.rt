@@ -12,7 +12,7 @@ ghost use Rattle.derived_printer.specs.Spellable.{Spellable, NodeIsSpellable};
 ghost use Rattle.derived_printer.specs.Spelling as spec;
 ghost use Rattle.derived_printer.specs.ValueMarks as mark;
 
-use crate::leaf::{dense, symbol};
+use crate::leaf::{dense, is_unit, symbol};
 use crate::token::{
     dims, float_text, int_type, key, name, separate, shape_text, sign, string, typed_number, word,
 };
@@ -227,18 +227,6 @@ fn dialect<S: Sink>(
 }
 
 // ---- dictionaries
-
-/// Whether a value is the unit attribute.
-fn is_unit(u: &Uniquer, id: ValueId) -> bool
-    requires { id.0 < length u.now }
-    ensures { result ≡ mark.is_unit_head (at u.now id.0).head }
-{
-    let (head, _) = u.view(id);
-    match head {
-        Head::Unit => true,
-        _ => false,
-    }
-}
 
 /// An entry of a dictionary. The unit attribute is left out.
 #[cycle(values)]
