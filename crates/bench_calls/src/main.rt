@@ -1,6 +1,6 @@
 //! Does one kind of work many times, so that it can be timed, and prints how much came of it.
 //!
-//! usage: bench_calls (intern | solve | choices | lex | layout | store | names) COUNT
+//! usage: bench_calls (intern | solve | choices | lex | layout | values | store | names) COUNT
 #![tactic(auto)]
 
 use anyhow::{Context, Result, bail};
@@ -11,11 +11,12 @@ mod layout;
 mod names;
 mod solve;
 mod store;
+mod values;
 
 fn main(rt: HostRuntime) -> Result<()> {
     let words: Vec<String> = env::args(&rt)?.skip(1).collect(rt.alloc())?;
     let [work, count] = words.as_slice() else {
-        bail!("usage: bench_calls (intern | solve | choices | lex | layout | store | names) COUNT");
+        bail!("usage: bench_calls (intern | solve | choices | lex | layout | values | store | names) COUNT");
     };
     let count: u32 = count.as_str().parse().context("COUNT is no number")?;
     let made = match work.as_str() {
@@ -24,6 +25,7 @@ fn main(rt: HostRuntime) -> Result<()> {
         "choices" => solve::walk_choices(rt.alloc(), count)?,
         "lex" => layout::lex_operations(rt.alloc(), count)?,
         "layout" => layout::lay_operations(rt.alloc(), count)?,
+        "values" => values::read_values(rt.alloc(), count)?,
         "store" => store::verify_module(rt.alloc(), count)?,
         "names" => names::note_names(rt.alloc(), count)?,
         _ => bail!("no such work"),
