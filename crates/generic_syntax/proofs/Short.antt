@@ -15,18 +15,36 @@ an_int = a-token int_word
 -- it is a piece of each rule
 pub short : (Derived : (x : Sort) → Tokens → Sem x → Type 0) (x : Sort)
     → (ts : Tokens) × Some_of (Derives Derived (rule x)) ts
-short Derived a_type =
-    (an_int ∷ [],
-    (node_at an_int.place (node.Word an_int.text),
-    (node.Word an_int.text,
-    (inl (inl (an_int.text, inl (an_int, refl, passes-some int_word, refl), refl))), refl)))
-short Derived plain =
-    (an_int ∷ [],
-    (node_at an_int.place (node.Word an_int.text),
-    (node.Word an_int.text,
-    (inl (an_int.text, inl (an_int, refl, passes-some int_word, refl), refl)), refl)))
-short Derived an_attr =
-    (an_int ∷ [],
-    (node_at an_int.place (node.Word an_int.text),
-    (node.Word an_int.text,
-    (inl (inl (inl (an_int.text, inl (an_int, refl, passes-some int_word, refl), refl)))), refl)))
+short Derived a_type = (
+  an_int ∷ [],
+  (
+    node_at an_int.place (node.Word an_int.text),
+    (
+      node.Word an_int.text,
+      (inl (inl (an_int.text, inl (an_int, refl, passes-some int_word, refl), refl))),
+      refl,
+    ),
+  ),
+)
+short Derived plain = (
+  an_int ∷ [],
+  (
+    node_at an_int.place (node.Word an_int.text),
+    (
+      node.Word an_int.text,
+      (inl (an_int.text, inl (an_int, refl, passes-some int_word, refl), refl)),
+      refl,
+    ),
+  ),
+)
+short Derived an_attr = (
+  an_int ∷ [],
+  (
+    node_at an_int.place (node.Word an_int.text),
+    (
+      node.Word an_int.text,
+      (inl (inl (inl (an_int.text, inl (an_int, refl, passes-some int_word, refl), refl)))),
+      refl,
+    ),
+  ),
+)
