@@ -60,6 +60,12 @@ module _ (b : Basis) (table now : List Value) (ready : IsReady b table) (grown :
       (sym (at-grows grown id.0 (ready.can.known is_type name id (sym there))))
       (ready.good is_type name id (sym there))
 
+  -- its id is that of a value
+  mention-known : (id : ValueId) → Some id ≡ b.ids is_type name → id.0 < length now
+  mention-known id there =
+      let less = ready.can.known is_type name id (sym there) in
+      let longer = length-grows grown in omega (arith, less, longer)
+
   -- it nests too deep
   pub mention-deep : (id : ValueId) → Some id ≡ b.ids is_type name → 1 ≤ n
       → TOO_DEEP - counted n < depth (at now id.0)
@@ -68,7 +74,7 @@ module _ (b : Basis) (table now : List Value) (ready : IsReady b table) (grown :
       subst (λ v. Says v (judged (Some id) (Some (fault_at place NESTING))))
       (sym (mention-is id there)) (record {
         some = record {
-          known = mention-known;
+          known = mention-known id there;
           spells = refl;
           good = mention-good id there;
         };
@@ -85,10 +91,6 @@ module _ (b : Basis) (table now : List Value) (ready : IsReady b table) (grown :
     where
       mark : Mark
       mark = claim_at place (mentions n (Some (at now id.0)))
-      mention-known : id.0 < length now
-      mention-known =
-          let less = ready.can.known is_type name id (sym there) in
-          let longer = length-grows grown in omega (arith, less, longer)
 
   -- there is room for it
   pub mention-fits : (id : ValueId) → Some id ≡ b.ids is_type name → 1 ≤ n
@@ -96,7 +98,7 @@ module _ (b : Basis) (table now : List Value) (ready : IsReady b table) (grown :
   mention-fits id there least shallow =
       subst (λ v. Says v (judged (Some id) None)) (sym (mention-is id there)) (record {
         some = record {
-          known = mention-known;
+          known = mention-known id there;
           spells = refl;
           good = mention-good id there;
         };
@@ -119,7 +121,3 @@ module _ (b : Basis) (table now : List Value) (ready : IsReady b table) (grown :
     where
       mark : Mark
       mark = claim_at place (mentions n (Some (at now id.0)))
-      mention-known : id.0 < length now
-      mention-known =
-          let less = ready.can.known is_type name id (sym there) in
-          let longer = length-grows grown in omega (arith, less, longer)
