@@ -16,7 +16,9 @@ mod values;
 fn main(rt: HostRuntime) -> Result<()> {
     let words: Vec<String> = env::args(&rt)?.skip(1).collect(rt.alloc())?;
     let [work, count] = words.as_slice() else {
-        bail!("usage: bench_calls (intern | solve | choices | lex | layout | values | store | names) COUNT");
+        bail!(
+            "usage: bench_calls (intern | solve | choices | lex | layout | values | store | names) COUNT"
+        );
     };
     let count: u32 = count.as_str().parse().context("COUNT is no number")?;
     let made = match work.as_str() {

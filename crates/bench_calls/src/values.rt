@@ -17,8 +17,12 @@ fn attributes(alloc: Global, count: u32) -> Result<Vec<u8>, AllocError> {
         if n > 0 {
             text.extend_from_slice(b", ")?;
         }
-        text.extend_from_slice(b"{name = \"of some length\", size = 42 : i32, type = tensor<4x?xf32>}, ")?;
-        text.extend_from_slice(b"@callee::@inner, array<i32: 1, 2, 3>, (i32, f64) -> i1, [true, unit]")?;
+        text.extend_from_slice(
+            b"{name = \"of some length\", size = 42 : i32, type = tensor<4x?xf32>}, ",
+        )?;
+        text.extend_from_slice(
+            b"@callee::@inner, array<i32: 1, 2, 3>, (i32, f64) -> i1, [true, unit]",
+        )?;
     }
     text.push(b']')?;
     Ok(text)

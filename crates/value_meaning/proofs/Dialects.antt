@@ -72,7 +72,7 @@ module _ (b : Basis) (table now : List Value) (n : ℕ) (spelled : List (Option 
         → IsInstance now b.tests b.types is_type name (list_of (kids_at now ids)) → First None
     first-instance ids same found =
         let instance = subst (λ l. IsInstance now b.tests b.types is_type name
-            (list_of (kids_at now l))) same found in
+        (list_of (kids_at now l))) same found in
         first-right table b.tests b.types mark
         (λ code breaks. elim breaks [
           | inl x ↦ x.1 named
@@ -87,20 +87,23 @@ module _ (b : Basis) (table now : List Value) (n : ℕ) (spelled : List (Option 
         → First (Some (fault_at place PARAMETERS))
     first-no-instance ids same missing =
         let none : IsInstance now b.tests b.types is_type name args → ⊥ =
-            λ x. missing (subst (λ l. IsInstance now b.tests b.types is_type name
-            (list_of (kids_at now l))) (sym same) x) in
+        λ x. missing (subst (λ l. IsInstance now b.tests b.types is_type name
+        (list_of (kids_at now l))) (sym same) x) in
         first-wrong table b.tests b.types mark (fault_at place PARAMETERS)
         (record {
           place = refl;
-          breaks = inr (refl, record {
-            named = named;
-            parameters = record {
-              values_are = args;
-              are = (p.kids.some all).spell;
-              good = (p.kids.some all).good;
-            };
-            wrong = λ instance. none (instance-grows p.grown p.ready.can.defs instance);
-          });
+          breaks = inr (
+            refl,
+            record {
+              named = named;
+              parameters = record {
+                values_are = args;
+                are = (p.kids.some all).spell;
+                good = (p.kids.some all).good;
+              };
+              wrong = λ instance. none (instance-grows p.grown p.ready.can.defs instance);
+            },
+          );
         })
         (λ code breaks. elim breaks as (λ _. PARAMETERS ≡ code) [
           | inl x ↦ absurd (x.1 named)

@@ -17,13 +17,13 @@ named-behind : (is_type : Bool) (name : Text) (d : TypeDef) (rest : List TypeDef
 named-behind is_type name d rest other x =
     elim (contains-cons d rest x.definition x.defined.listed) [
       | inl same ↦ absurd (other (
-          ap (λ (e : TypeDef). e.is_type) same ∙ x.defined.kind,
-          ap (λ (e : TypeDef). e.name) same ∙ x.defined.named,
-        ))
+        ap (λ (e : TypeDef). e.is_type) same ∙ x.defined.kind,
+        ap (λ (e : TypeDef). e.name) same ∙ x.defined.named,
+      ))
       | inr listed ↦ record {
-          definition = x.definition;
-          defined = record { listed = listed; kind = x.defined.kind; named = x.defined.named };
-        }
+        definition = x.definition;
+        defined = record { listed = listed; kind = x.defined.kind; named = x.defined.named };
+      }
     ]
 
 -- and the other way round
@@ -53,8 +53,7 @@ pub named-next : (is_type : Bool) (name : Text) (types : List TypeDef) (i : ℕ)
     → IsNamed types is_type name ↔ IsNamed (drop (i + 1) types) is_type name
 named-next is_type name types i d inside at other before =
     let next : drop i types ≡ d ∷ drop (i + 1) types =
-        next-item types i d inside at in
-    (
+    next-item types i d inside at in (
       λ x. named-behind is_type name d (drop (i + 1) types) other
           (subst (λ l. IsNamed l is_type name) next (before.0 x)),
       λ x. before.1 (subst (λ l. IsNamed l is_type name) (sym next)
@@ -67,7 +66,7 @@ pub named-here : (is_type : Bool) (name : Text) (types : List TypeDef) (i : ℕ)
     → IsNamed types is_type name ↔ IsNamed (drop i types) is_type name → IsNamed types is_type name
 named-here is_type name types i d inside at so before =
     let next : drop i types ≡ d ∷ drop (i + 1) types =
-        next-item types i d inside at in
+    next-item types i d inside at in
     before.1 (subst (λ l. IsNamed l is_type name) (sym next) (record {
       definition = d;
       defined = record {

@@ -168,12 +168,12 @@ module _ (g : Ground) (n : ℕ) (new : List Value) where
       made-right e room =
           let kids = x.right e in
           let same : made ≡ made_of head kids.values_are =
-              let it : Some made ≡ Some (made_of head kids.values_are) =
-                  sym made-spelled ∙ whole-is kids.values_are kids.spell in cc in
+          let it : Some made ≡ Some (made_of head kids.values_are) =
+          sym made-spelled ∙ whole-is kids.values_are kids.spell in cc in
           let less = greatest-fits (n + 1) kids.values_are (omega (arith, room))
-              (all-fit g (n + 1) kids.values_are kids.right) in
+          (all-fit g (n + 1) kids.values_are kids.right) in
           let fits : Fits n made =
-              subst (Fits n) (sym same) (omega (arith, less)) in
+          subst (Fits n) (sym same) (omega (arith, less)) in
           record {
             value = made;
             spells = made-spelled;
@@ -206,7 +206,7 @@ module _ (g : Ground) (n : ℕ) (new : List Value) where
         some = tt;
         none = λ good.
             let it : made ≡ good.value =
-                let e : Some made ≡ Some good.value = sym made-spelled ∙ good.is in cc in
+            let e : Some made ≡ Some good.value = sym made-spelled ∙ good.is in cc in
             let shallow = (subst (IsGood g) (made-is-not it) good.good).shallow in
             omega (arith, deep, shallow);
         first = x.first;

@@ -21,7 +21,11 @@ impl Aliases {
     pub fn get(&self, is_type: bool, name: &Text) -> Option<ValueId>
         ensures { result ≡ id_of self.now is_type name.now }
     {
-        let named = if is_type { &self.types } else { &self.attributes };
+        let named = if is_type {
+            &self.types
+        } else {
+            &self.attributes
+        };
         named.get(name).copied()
     }
 }

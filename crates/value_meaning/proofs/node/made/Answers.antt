@@ -15,8 +15,8 @@ pub returns-then-depth-gt-DEPTH_LIMIT-clause-judged : goal.returns-then-depth-gt
 returns-then-depth-gt-DEPTH_LIMIT-clause-judged c = λ g n spelled ms least other x keeps.
     let all = c.if-not-kids.false in
     let stands = get_or_from_slice_get c.intern.new.self c.in_ok-id.id.0
-        (value c.args.head (kids_at c.args.u.now c.deref.result.now)) (value h.Unit none)
-        c.in_ok-id.ensures.ok.stands in
+    (value c.args.head (kids_at c.args.u.now c.deref.result.now)) (value h.Unit none)
+    c.in_ok-id.ensures.ok.stands in
     judges-too-deep g n c.intern.new.self c.args.head other spelled ms least c.args.kids
     c.args.u.now x all (keeps all).rule (keeps all).defined c.in_ok-id.id
     c.in_ok-id.ensures.known
@@ -27,8 +27,8 @@ pub returns-clause-judged : goal.returns-clause-judged
 returns-clause-judged c = λ g n spelled ms least other x keeps.
     let all = c.if-not-kids.false in
     let stands = get_or_from_slice_get c.intern.new.self c.in_ok-id.id.0
-        (value c.args.head (kids_at c.args.u.now c.deref.result.now)) (value h.Unit none)
-        c.in_ok-id.ensures.ok.stands in
+    (value c.args.head (kids_at c.args.u.now c.deref.result.now)) (value h.Unit none)
+    c.in_ok-id.ensures.ok.stands in
     judges-made g n c.intern.new.self c.args.head other spelled ms least c.args.kids
     c.args.u.now x all (keeps all).rule (keeps all).defined c.in_ok-id.id
     c.in_ok-id.ensures.known

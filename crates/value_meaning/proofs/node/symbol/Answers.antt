@@ -11,7 +11,7 @@ use Rattle.value_meaning.proofs.node.symbol.Goals as goal
 pub returns-then-is_empty-clause-judged : goal.returns-then-is_empty-clause-judged
 returns-then-is_empty-clause-judged c = λ g n.
     let none : length c.args.parts.now ≡ 0 =
-        eqb-true (length c.args.parts.now) 0 (sym c.if-is_empty.ensures) in
+    eqb-true (length c.args.parts.now) 0 (sym c.if-is_empty.ensures) in
     rw c.wrong.ensures.value (rw c.wrong.ensures.first
     (form-wrong g n c.args.place c.args.u.now (nat_lt 0 (length c.args.parts.now))
     (Some (leaf (h.Symbol c.args.parts.now))) (ap (nat_lt 0) none)

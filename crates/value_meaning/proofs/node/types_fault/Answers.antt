@@ -21,8 +21,8 @@ pub returns-clause-first : goal.returns-clause-first
 returns-clause-first c = λ g n spelled ms x.
     types-wrong g n c.args.place spelled ms c.args.u.now c.args.kids.now x c.if-not-kids.false
     (λ types.
-      let own = c.keeps_own_rule.ensures.1 (subst
-          (λ l. OwnRule h.Tuple (list_of (kids_at c.args.u.now l))) (sym c.deref.ensures.value)
-          (own-tuple (list_of (kids_at c.args.u.now c.args.kids.now.ids.items)) types)) in
-      let never : true ≡ false = sym own ∙ c.if-keeps_own_rule.false in
-      absurd (cc))
+    let own = c.keeps_own_rule.ensures.1 (subst
+    (λ l. OwnRule h.Tuple (list_of (kids_at c.args.u.now l))) (sym c.deref.ensures.value)
+    (own-tuple (list_of (kids_at c.args.u.now c.args.kids.now.ids.items)) types)) in
+    let never : true ≡ false = sym own ∙ c.if-keeps_own_rule.false in
+    absurd (cc))

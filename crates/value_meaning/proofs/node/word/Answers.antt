@@ -8,7 +8,7 @@ use Rattle.value_meaning.proofs.node.word.Goals as goal
 pub returns-in-Some-clause-judged : goal.returns-in-Some-clause-judged
 returns-in-Some-clause-judged c = λ g n.
     let is : word_head c.args.word.now ≡ Some c.in-Some.head =
-        sym c.head_of_word.ensures ∙ c.in-Some.is in
+    sym c.head_of_word.ensures ∙ c.in-Some.is in
     rw is (ok-map c.leaf_of.result
     (λ j x. form-right g n c.args.place c.leaf_of.new.u true _ j refl x)
     (c.leaf_of.ensures.judged g n (word-good g c.args.word.now c.in-Some.head is)))

@@ -15,6 +15,6 @@ returns-clause-first g c = λ table n spelled ms p.
     c.args.name.now c.args.place (c.is_named.ensures.0 c.if-not-is_named.false)
     c.if-not-args.false c.deref.result.now c.deref.ensures.value
     (λ instance.
-      let is : true ≡ c.is_instance.result = sym (c.is_instance.ensures.1 instance) in
-      let never : true ≡ false = is ∙ c.if-is_instance.false in
-      absurd (cc))
+    let is : true ≡ c.is_instance.result = sym (c.is_instance.ensures.1 instance) in
+    let never : true ≡ false = is ∙ c.if-is_instance.false in
+    absurd (cc))

@@ -7,5 +7,5 @@ loop-d-preserved c =
     named-next c.args.is_type c.args.name.now c.args.types.now c.loop-d.d-index c.d-item.result
     c.loop-d-test.true c.d-item.is
     (λ so. let never : true ≡ false =
-        sym (c.is_defined_as.ensures.1 so) ∙ c.if-is_defined_as.false in absurd (cc))
+    sym (c.is_defined_as.ensures.1 so) ∙ c.if-is_defined_as.false in absurd (cc))
     c.loop-d.invariant

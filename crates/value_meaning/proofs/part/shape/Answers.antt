@@ -12,7 +12,7 @@ use Rattle.value_meaning.proofs.part.shape.Goals as goal
 pub returns-in-Some-clause-judged : goal.returns-in-Some-clause-judged
 returns-in-Some-clause-judged c = λ g n spelled ms least x.
     let is : all_some (map (dim_of c.args.kind) c.args.dims.now) ≡ Some c.in-Some.dims =
-        sym c.in_ok-dims.ensures ∙ c.in-Some.is in
+    sym c.in_ok-dims.ensures ∙ c.in-Some.is in
     let mark = claim_at c.args.place (measures c.args.kind c.args.dims.now spelled) in
     rw is (ok-map c.of_types.result
     (λ j y. subst (λ whole. Judges g n whole
@@ -27,5 +27,5 @@ returns-in-Some-clause-judged c = λ g n spelled ms least x.
 pub returns-in-None-clause-judged : goal.returns-in-None-clause-judged
 returns-in-None-clause-judged c = λ g n spelled ms least x.
     let is : all_some (map (dim_of c.args.kind) c.args.dims.now) ≡ None =
-        sym c.in_ok-dims.ensures ∙ c.in-None.is in
+    sym c.in_ok-dims.ensures ∙ c.in-None.is in
     rw is (c.wrong_shape.ensures.judged g n spelled ms c.args.kind c.args.dims.now is x)
