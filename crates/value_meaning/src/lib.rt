@@ -19,3 +19,6 @@ mod word;
 pub use code::{ALIAS_UNKNOWN, INT_RANGE, KEY_REPEATED, NAME_UNKNOWN, NESTING, PARAMETERS, SYNTAX};
 pub use env::Aliases;
 pub use keys::KeySet;
+
+#[cfg(test)]
+mod tests;
