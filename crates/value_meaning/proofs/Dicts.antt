@@ -121,7 +121,7 @@ pub dict-other-head : (keys : List Text) → IsOther (h.Dict keys)
 dict-other-head keys kind e = cc
 
 -- a dictionary is no integer type
-dict-other : (g : Ground) (es : List EntrySeen) → IsNoBadInteger g (dict_value es)
+pub dict-other : (g : Ground) (es : List EntrySeen) → IsNoBadInteger g (dict_value es)
 dict-other g es v kind e int =
     let it = dict-spelled es v e in
     absurd (dict-other-head (map (λ p. p.0) it.sorted) kind (ap (λ x. x.head) (sym it.is) ∙ int))

@@ -1,14 +1,14 @@
 -- What is made of a tree by its layers, one equation for each form of a value.
-use Rattle.std.proofs.Common.{◌≡◌, ◌∙◌, sym, ap, refl, ℕ, Bool, List, map}
+use Rattle.std.proofs.Common.{◌≡◌, ◌∙◌, sym, ap, ℕ, Bool, List, map}
 use Rattle.std.specs.Prelude.{option_map}
 use Rattle.std.specs.declared.option.Option.{Option}
 use Rattle.std.specs.declared.option.Option.TheVariants.{Some, None}
 use Rattle.attr_value.specs.declared.kind.ShapeKind.{ShapeKind}
-use Rattle.generic_syntax.specs.declared.cst.EntryCst.{EntryCst, EntryCst-F, roll-EntryCst}
-use Rattle.generic_syntax.specs.declared.cst.EntryCst.{fold-EntryCst, fold-roll-EntryCst}
+use Rattle.generic_syntax.specs.declared.cst.EntryCst.{EntryCst, EntryCst-F}
+use Rattle.generic_syntax.specs.declared.cst.EntryCst.{fold-EntryCst}
 use Rattle.generic_syntax.specs.declared.cst.ItemCst.{ItemCst}
-use Rattle.generic_syntax.specs.declared.cst.ValueCst.{ValueCst, ValueCst-F, roll-ValueCst}
-use Rattle.generic_syntax.specs.declared.cst.ValueCst.{fold-ValueCst, fold-roll-ValueCst}
+use Rattle.generic_syntax.specs.declared.cst.ValueCst.{ValueCst, ValueCst-F}
+use Rattle.generic_syntax.specs.declared.cst.ValueCst.{fold-ValueCst}
 use Rattle.generic_syntax.specs.declared.cst.ValueNode.{ValueNode, fold-ValueNode}
 use Rattle.generic_syntax.specs.declared.cst.ValueNode.{fold-roll-ValueNode}
 use Rattle.generic_syntax.specs.declared.cst.ValueNode.TheOpen.{ValueNode-F}

@@ -1,5 +1,5 @@
 -- Judgements that are put together: a value and that it stands where it does, and kids one by one.
-use Rattle.std.proofs.Common.{◌≡◌, ◌<◌, ◌≤◌, inl, inr, ℕ, ◌+◌, Bool, true, false, ◌&&◌, List, [], ◌∷◌, ◌++◌}
+use Rattle.std.proofs.Common.{◌≡◌, ◌<◌, ◌≤◌, inl, inr, ℕ, Bool, true, false, ◌&&◌, List, [], ◌∷◌, ◌++◌}
 use Rattle.std.proofs.Common.{map, length, refl, sym, ◌∙◌, ap, subst, arith, is_some}
 use Rattle.std.proofs.Common.{IfSome, IfNone}
 use Rattle.std.proofs.lemmas.Bool.{cases_lt}

@@ -1,6 +1,6 @@
 -- Values without kids, and what is asked of kids: when they are good.
-use Rattle.std.proofs.Common.{◌≡◌, ◌<◌, ◌≤◌, ◌↔◌, ◌≢◌, ℕ, ◌+◌, ◌&&◌, ◌||◌, Bool, true, false, List, [], ◌∷◌}
-use Rattle.std.proofs.Common.{map, length, refl, sym, ◌∙◌, ap, subst, arith, option_map, is_some, cond, nat_lt, rules}
+use Rattle.std.proofs.Common.{◌≡◌, ◌<◌, ℕ, Bool, true, false, List, [], ◌∷◌}
+use Rattle.std.proofs.Common.{map, length, refl, sym, ◌∙◌, ap, subst, arith, cond, nat_lt, rules}
 use Rattle.std.proofs.Common.{◌==◌}
 use Rattle.std.proofs.lemmas.Bool.Decides.{nat_tests}
 use Rattle.std.specs.List.{AllByRecursion}
@@ -8,8 +8,7 @@ use Rattle.std.specs.declared.option.Option.{Option}
 use Rattle.std.specs.declared.option.Option.TheVariants.{Some, None}
 use Rattle.attr_value.specs.declared.head.Head.{Head}
 use Rattle.attr_value.specs.declared.head.Head.TheVariants as h
-use Rattle.attr_value.specs.declared.kind.IntKind.{IntKind}
-use Rattle.attr_value.specs.Heads.{HeadIsRight, IsType, MayHaveKids, OwnRule, is_made_of_types}
+use Rattle.attr_value.specs.Heads.{HeadIsRight, IsType, MayHaveKids, OwnRule}
 use Rattle.attr_value.specs.Ids.{kids_at}
 use Rattle.attr_value.specs.Values.{Value, list_of}
 use Rattle.dialect_defs.specs.Goodness.{IsDefined}

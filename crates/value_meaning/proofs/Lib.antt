@@ -17,6 +17,12 @@ pub mod Rising
 pub mod Sorted
 pub mod TextOrder
 pub mod Folds
+pub mod Trees
+pub mod Joining
+pub mod Integers
+pub mod Forms
+pub mod Listing
+pub mod Growing
 pub mod Mentions
 pub mod Leaves
 pub mod Results

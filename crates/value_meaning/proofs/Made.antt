@@ -1,15 +1,15 @@
 -- Values that are made of others: when they are good, and how deep they are.
-use Rattle.std.proofs.Common.{◌≡◌, ◌≤◌, ◌⊎◌, inl, inr, ℕ, ◌+◌, max, Bool, List, [], ◌∷◌, map, length}
-use Rattle.std.proofs.Common.{refl, sym, ◌∙◌, ap, subst, arith, option_map, option_and_then}
+use Rattle.std.proofs.Common.{◌≡◌, ◌≤◌, ℕ, ◌+◌, List, [], ◌∷◌, map}
+use Rattle.std.proofs.Common.{refl, sym, ◌∙◌, ap, subst, arith, option_map}
 use Rattle.std.specs.List.{AllByRecursion}
 use Rattle.std.specs.declared.option.Option.{Option}
 use Rattle.std.specs.declared.option.Option.TheVariants.{Some, None}
 use Rattle.attr_value.specs.declared.head.Head.{Head}
 use Rattle.attr_value.specs.declared.head.TheConstants.{DEPTH_LIMIT}
 use Rattle.attr_value.specs.Heads.{OwnRule}
-use Rattle.attr_value.specs.Values.{Value, Values, none, more, value, list_of, depth, greatest_depth}
+use Rattle.attr_value.specs.Values.{Value, Values, none, more, list_of, depth, greatest_depth}
 use Rattle.constraint_solver.proofs.Goods.{good-nodes}
-use Rattle.dialect_defs.specs.Goodness.{Good, AreGoodNodes, IsGoodNode, IsDefined}
+use Rattle.dialect_defs.specs.Goodness.{AreGoodNodes, IsGoodNode, IsDefined}
 use Rattle.value_meaning.specs.Judging.{Ground, IsGood, Fits, IsRight}
 use Rattle.value_meaning.specs.Meaning.{kids_of, made_of, leaf}
 use Rattle.value_meaning.specs.Spelled.{all_some}

@@ -1,9 +1,8 @@
 -- What the judgement of a mention shows.
-use Rattle.std.proofs.Common.{◌≡◌, ◌<◌, ◌≤◌, ℕ, ◌+◌, ◌-◌, Bool, List, [], ◌∷◌, length, option_map, min}
+use Rattle.std.proofs.Common.{◌≡◌, ◌<◌, ◌≤◌, ℕ, ◌-◌, Bool, List, [], ◌∷◌, length, option_map}
 use Rattle.std.proofs.Common.{refl, sym, ◌∙◌, ap, subst, arith}
 use Rattle.std.specs.declared.option.Option.{Option}
 use Rattle.std.specs.declared.option.Option.TheVariants.{Some, None}
-use Rattle.attr_value.specs.declared.head.TheConstants.{DEPTH_LIMIT}
 use Rattle.attr_value.specs.declared.head.ValueId.{ValueId}
 use Rattle.attr_value.specs.Ids.{at}
 use Rattle.attr_value.specs.Values.{Value, depth}
@@ -14,8 +13,7 @@ use Rattle.generic_syntax.specs.declared.parse.TheConstants.{TOO_DEEP}
 use Rattle.ir_lexer.specs.Spelling.{Text}
 use Rattle.value_meaning.specs.declared.code.TheConstants.{ALIAS_UNKNOWN, NESTING}
 use Rattle.value_meaning.specs.declared.judged.Judged.{Judged}
-use Rattle.value_meaning.specs.Faults.{IsFaultOf}
-use Rattle.value_meaning.specs.Judging.{Ground, IsGood, Judges, Basis, with_table, values_at, IsReady}
+use Rattle.value_meaning.specs.Judging.{IsGood, Judges, Basis, with_table, values_at, IsReady}
 use Rattle.value_meaning.specs.Judging.{counted}
 use Rattle.value_meaning.specs.Meaning.{Mark, claim_at, mentions}
 use Rattle.value_meaning.proofs.Among.{first-nil, first-single, first-right, first-wrong}
@@ -64,7 +62,8 @@ module _ (b : Basis) (table now : List Value) (ready : IsReady b table) (grown :
   mention-known : (id : ValueId) → Some id ≡ b.ids is_type name → id.0 < length now
   mention-known id there =
       let less = ready.can.known is_type name id (sym there) in
-      let longer = length-grows grown in omega (arith, less, longer)
+      let longer = length-grows grown in
+      omega (arith, less, longer)
 
   -- it nests too deep
   pub mention-deep : (id : ValueId) → Some id ≡ b.ids is_type name → 1 ≤ n

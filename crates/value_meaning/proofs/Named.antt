@@ -1,6 +1,6 @@
 -- Definitions of a kind and name in a list.
 use Rattle.std.proofs.Common.{◌≡◌, ◌<◌, ◌↔◌, ℕ, suc, ◌+◌, Bool, List, [], ◌∷◌, length, drop, get_or}
-use Rattle.std.proofs.Common.{refl, sym, ◌∙◌, ap, subst, inl, inr, arith}
+use Rattle.std.proofs.Common.{sym, ◌∙◌, ap, subst, inl, inr, arith}
 use Rattle.std.proofs.Math.Seq.{drop-cons}
 use Rattle.dialect_defs.specs.declared.definition.TypeDef.{TypeDef}
 use Rattle.ir_lexer.specs.Spelling.{Text}

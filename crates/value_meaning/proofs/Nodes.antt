@@ -1,7 +1,6 @@
 -- What the judgement of a node shows, from that of what stands in it.
-use Rattle.std.proofs.Common.{◌≡◌, ◌<◌, ◌≤◌, ◌⊎◌, inl, inr, ℕ, ◌+◌, Bool, true, false, List, [], ◌∷◌}
-use Rattle.std.proofs.Common.{map, length, refl, sym, ◌∙◌, ap, subst, arith, option_map, IfSome, IfNone}
-use Rattle.std.specs.List.{AllByRecursion}
+use Rattle.std.proofs.Common.{◌≡◌, ◌<◌, ◌≤◌, ℕ, ◌+◌, true, false, List, [], ◌∷◌}
+use Rattle.std.proofs.Common.{map, length, refl, sym, ◌∙◌, ap, subst, arith, option_map}
 use Rattle.std.specs.declared.option.Option.{Option}
 use Rattle.std.specs.declared.option.Option.TheVariants.{Some, None}
 use Rattle.attr_value.specs.declared.head.Head.{Head}
@@ -11,7 +10,7 @@ use Rattle.attr_value.specs.declared.head.ValueId.{ValueId}
 use Rattle.attr_value.specs.declared.kind.IntKind.{IntKind}
 use Rattle.attr_value.specs.Heads.{OwnRule}
 use Rattle.attr_value.specs.Ids.{at, kids_at}
-use Rattle.attr_value.specs.Values.{Value, value, list_of, depth, greatest_depth}
+use Rattle.attr_value.specs.Values.{Value, value, list_of, depth}
 use Rattle.dialect_defs.specs.Goodness.{IsDefined}
 use Rattle.first_fault.specs.declared.fault.Fault.{Fault}
 use Rattle.first_fault.specs.Firsts.{earlier_of, IsFirst}
@@ -19,12 +18,12 @@ use Rattle.first_fault.proofs.Firsts.{earlier_of-both-none}
 use Rattle.value_meaning.specs.declared.judged.Judged.{Judged}
 use Rattle.value_meaning.specs.declared.judged.Kids.{Kids}
 use Rattle.value_meaning.specs.Faults.{HasGood, HaveGood, IsFaultOf, IsFaultAmong}
-use Rattle.value_meaning.specs.Judging.{Ground, IsGood, Fits, IsRight, IsIdOf, HasRight}
-use Rattle.value_meaning.specs.Judging.{IsNoBadInteger, Judges, AreIdsOf, HaveRight, JudgesKids}
-use Rattle.value_meaning.specs.Meaning.{Mark, kids_of, made_of, leaf}
+use Rattle.value_meaning.specs.Judging.{Ground, IsGood, Fits, HasRight}
+use Rattle.value_meaning.specs.Judging.{IsNoBadInteger, Judges, JudgesKids}
+use Rattle.value_meaning.specs.Meaning.{Mark, made_of, leaf}
 use Rattle.value_meaning.specs.Spelled.{all_some}
 use Rattle.value_meaning.proofs.Among.{first-nil, first-cons}
-use Rattle.value_meaning.proofs.Made.{all_some-some, all_some-are, list_of-kids_of, kids_of-list_of}
+use Rattle.value_meaning.proofs.Made.{all_some-some, all_some-are, kids_of-list_of}
 use Rattle.value_meaning.proofs.Made.{greatest-fits, good-made, good-kids, all-good, all-fit}
 
 -- what is judged so

@@ -1,17 +1,16 @@
 -- What the judgement of types, shapes and values of dialects shows, from that of their kids.
-use Rattle.std.proofs.Common.{◌≡◌, ◌<◌, ◌≤◌, ◌≢◌, ◌⊎◌, inl, inr, ℕ, ◌+◌, Bool, true, false, List, [], ◌∷◌}
+use Rattle.std.proofs.Common.{◌≡◌, ℕ, ◌+◌, Bool, true, false, List, [], ◌∷◌}
 use Rattle.std.proofs.lemmas.List.{length-map}
-use Rattle.std.proofs.Common.{map, length, refl, sym, ◌∙◌, ap, subst, arith}
-use Rattle.std.specs.Prelude.{option_map, option_and_then, if◌then◌else◌}
+use Rattle.std.proofs.Common.{map, length, refl, sym, ◌∙◌, ap, subst}
+use Rattle.std.specs.Prelude.{option_map, if◌then◌else◌}
 use Rattle.std.specs.List.{AllByRecursion}
 use Rattle.std.specs.declared.option.Option.{Option}
 use Rattle.std.specs.declared.option.Option.TheVariants.{Some, None}
 use Rattle.attr_value.specs.declared.head.Head.{Head}
 use Rattle.attr_value.specs.declared.head.Head.TheVariants as h
 use Rattle.attr_value.specs.declared.kind.Dim.{Dim}
-use Rattle.attr_value.specs.declared.kind.IntKind.{IntKind}
 use Rattle.attr_value.specs.declared.kind.ShapeKind.{ShapeKind}
-use Rattle.attr_value.specs.Heads.{IsType, is_made_of_types}
+use Rattle.attr_value.specs.Heads.{IsType}
 use Rattle.attr_value.specs.Ids.{kids_at}
 use Rattle.attr_value.specs.Values.{Value, list_of}
 use Rattle.first_fault.specs.declared.fault.Fault.{Fault}
@@ -20,8 +19,8 @@ use Rattle.first_fault.proofs.Firsts.{earlier_of-both-none}
 use Rattle.ir_lexer.specs.Spelling.{Text}
 use Rattle.value_meaning.specs.declared.code.TheConstants.{PARAMETERS}
 use Rattle.value_meaning.specs.declared.judged.Kids.{Kids}
-use Rattle.value_meaning.specs.Faults.{HasGood, HaveGood, IsFaultOf}
-use Rattle.value_meaning.specs.Judging.{Ground, IsGood, IsOther, IsOfTypes, Keeps, Judges, JudgesKids}
+use Rattle.value_meaning.specs.Faults.{HasGood, IsFaultOf}
+use Rattle.value_meaning.specs.Judging.{Ground, IsGood, IsOther, IsOfTypes, Judges, JudgesKids}
 use Rattle.value_meaning.specs.Meaning.{Mark, claim_at, made_of, measures}
 use Rattle.value_meaning.specs.Meaning as claim
 use Rattle.value_meaning.specs.Spelled.{all_some, dim_of}

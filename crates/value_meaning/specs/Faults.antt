@@ -10,7 +10,7 @@
 --   IsFaultOf .. m f     f is the fault of the mark m
 --   IsFaultAmong .. ms   the faults of some marks
 --   IsFault .. n c f     f is a fault of the tree c, which stands at nesting n
-use Rattle.std.specs.Prelude.{◌≡◌, ◌<◌, ◌⊎◌, ℕ, ◌+◌, ◌-◌, Bool, false, List, [], ◌∷◌, map, Contains}
+use Rattle.std.specs.Prelude.{◌≡◌, ◌<◌, ◌⊎◌, ℕ, ◌+◌, ◌-◌, Bool, false, List, map, Contains}
 use Rattle.std.specs.List.{AllByRecursion}
 use Rattle.std.specs.declared.option.Option.{Option}
 use Rattle.std.specs.declared.option.Option.TheVariants.{Some, None}

@@ -10,8 +10,8 @@
 --   dim_of kind text           a dimension of a shape of this kind, or none
 --   all_some xs                what each is, where each is something
 --   sorted_entries es          entries by ascending key, or none where a key stands twice
-use Rattle.std.specs.Prelude.{◌≡◌, ℕ, ◌+◌, ◌*◌, ◌^◌, Bool, true, false, ◌&&◌, ◌||◌, not, ◌==◌, cond}
-use Rattle.std.specs.Prelude.{List, [], ◌∷◌, map, drop, ℤ, pos, neg_ℤ, int_le, nat_le, nat_lt}
+use Rattle.std.specs.Prelude.{ℕ, ◌+◌, ◌*◌, ◌^◌, Bool, true, false, ◌&&◌, ◌||◌, not, ◌==◌, cond}
+use Rattle.std.specs.Prelude.{List, [], ◌∷◌, drop, ℤ, pos, neg_ℤ, int_le, nat_le, nat_lt}
 use Rattle.std.specs.Prelude.{bytes_eq, codes, if◌then◌else◌, option_map, option_and_then}
 use Rattle.std.specs.declared.option.Option.{Option}
 use Rattle.std.specs.declared.option.Option.TheVariants.{Some, None}

@@ -1,8 +1,12 @@
 //! What is known of a tree, or of some trees, behind their judgement.
 
 ghost use Rattle.std.specs.Prelude.{◌≡◌, [], ◌∷◌, ◌++◌, true, false, None, Some, IfOk, OnOk};
+ghost use Rattle.std.specs.Prelude.{ℕ, List};
+ghost use Rattle.attr_value.specs.Ids.{AreKnown};
+ghost use Rattle.attr_value.specs.Values.{Value};
 ghost use Rattle.first_fault.specs.Firsts.{earlier_of};
 ghost use Rattle.value_meaning.specs.Gathered.{IsAdded};
+ghost use Rattle.value_meaning.specs.Judging.{AreJudged, Ground};
 
 use attr_value::ValueId;
 use first_fault::{Fault, earlier};
@@ -66,6 +70,8 @@ impl Kids {
         ensures ids { result.ids.items ≡ [] }
         ensures all_good { result.all_good ≡ true }
         ensures first { result.first ≡ None }
+        ensures known { (len : ℕ) → AreKnown len result.ids.items }
+        ensures none { (g : Ground) (n : ℕ) (new : List Value) → AreJudged g n [] new result }
     {
         Kids {
             ids: Vec::new(alloc),

@@ -7,6 +7,7 @@ mod dict;
 mod digits;
 mod entries;
 mod env;
+mod gather;
 mod judged;
 mod keys;
 mod leaf;

@@ -1,9 +1,9 @@
-use Rattle.std.proofs.Common.{◌≡◌, ◌<◌, ◌≤◌, true, false, refl, sym, ◌∙◌, ap, subst, arith}
+use Rattle.std.proofs.Common.{◌<◌, ◌≤◌, ◌∙◌, ap, subst}
 use Rattle.std.proofs.lemmas.Option.{get_or_from_slice_get}
 use Rattle.attr_value.specs.declared.head.Head.TheVariants as h
 use Rattle.attr_value.specs.declared.head.TheConstants.{DEPTH_LIMIT}
-use Rattle.attr_value.specs.Ids.{at, kids_at}
-use Rattle.attr_value.specs.Values.{value, depth, none}
+use Rattle.attr_value.specs.Ids.{kids_at}
+use Rattle.attr_value.specs.Values.{value, none}
 use Rattle.value_meaning.proofs.Nodes.{judges-not-made, judges-made, judges-too-deep}
 use Rattle.value_meaning.proofs.node.made.Goals as goal
 

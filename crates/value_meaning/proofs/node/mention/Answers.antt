@@ -1,5 +1,4 @@
-use Rattle.std.proofs.Common.{◌≡◌, ◌<◌, ◌≤◌, ◌-◌, refl, sym, ◌∙◌, ap, subst, arith}
-use Rattle.std.proofs.lemmas.Bool.Decides.{nat_tests}
+use Rattle.std.proofs.Common.{◌<◌, ◌≤◌, ◌-◌, sym, ◌∙◌, ap, subst}
 use Rattle.attr_value.specs.Ids.{at}
 use Rattle.attr_value.specs.Values.{depth}
 use Rattle.generic_syntax.specs.declared.parse.TheConstants.{TOO_DEEP}

@@ -1,4 +1,4 @@
-use Rattle.std.proofs.Common.{◌≡◌, refl, sym, ◌∙◌, ap, true, false, length, nat_lt}
+use Rattle.std.proofs.Common.{◌≡◌, sym, ap, length, nat_lt}
 use Rattle.std.specs.declared.option.Option.TheVariants.{Some}
 use Rattle.std.proofs.lemmas.Bool.{eqb-true}
 use Rattle.attr_value.specs.declared.head.Head.TheVariants as h

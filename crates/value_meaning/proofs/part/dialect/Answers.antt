@@ -1,4 +1,4 @@
-use Rattle.std.proofs.Common.{◌≡◌, ◌+◌, ◌∙◌}
+use Rattle.std.proofs.Common.{◌+◌, ◌∙◌}
 use Rattle.value_meaning.proofs.Dialects.{dialect-bad, dialect-made}
 use Rattle.value_meaning.proofs.part.dialect.Goals as goal
 

@@ -1,4 +1,4 @@
-use Rattle.std.proofs.Common.{◌≡◌, refl, sym, ◌∙◌, true, false}
+use Rattle.std.proofs.Common.{◌≡◌, sym, ◌∙◌, true, false}
 use Rattle.value_meaning.proofs.Dialects.{first-instance, first-no-instance}
 use Rattle.value_meaning.proofs.part.dialect_fault.Goals as goal
 

@@ -1,5 +1,5 @@
-use Rattle.std.proofs.Common.{◌≡◌, refl, sym, ◌∙◌, true, false}
-use Rattle.value_meaning.proofs.Named.{named-next, named-here, named-nil}
+use Rattle.std.proofs.Common.{◌≡◌, sym, ◌∙◌, true, false}
+use Rattle.value_meaning.proofs.Named.{named-next}
 use Rattle.value_meaning.proofs.part.is_named.Goals as goal
 
 pub loop-d-preserved : goal.loop-d-preserved

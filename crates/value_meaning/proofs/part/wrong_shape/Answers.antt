@@ -1,4 +1,4 @@
-use Rattle.std.proofs.Common.{◌≡◌, ◌+◌, ◌∷◌, [], refl, sym, ◌∙◌}
+use Rattle.std.proofs.Common.{◌+◌, ◌∷◌, []}
 use Rattle.value_meaning.proofs.Parts.{shape-wrong}
 use Rattle.value_meaning.proofs.part.wrong_shape.Goals as goal
 
