@@ -64,8 +64,7 @@ pub record HasTokensOf (marks : List Mark) (text : Text) : Type 0 where
   pub are : AreTokens text (front ++ end ∷ [])
 
 -- The front of the text's tokens that is an attribute has this value, nothing in it is too deep,
--- and
--- the end is all that stands behind it.
+-- and the end is all that stands behind it.
 pub record IsTextOf (aliases : Aliases) (v : Value) (text : Text) : Type 0 where
   pub tokens : Tokens
   pub tree : ValueCst

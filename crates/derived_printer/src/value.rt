@@ -23,7 +23,11 @@ use irdl_bytes::Sink;
 use std::alloc::Global;
 use text_layout::{Layout, PrintError};
 
-/// Lays the canonical text of a value down, the tokens `value_marks`.
+/// Lays the canonical text of a value down, the tokens `value_marks` of `specs/ValueMarks.antt`.
+///
+/// The value is one that can be spelled: it and all in it keep to the rules of their heads, names
+/// of dialects' values are bare ids with a dot, and it nests at most 64 deep. Behind an error that
+/// the layout answered before, the same one is answered, and nothing is written.
 ///
 /// `WriteFault`, `OutputLimit` and `OutOfMemory` come as from the layout, and `OutOfMemory` also
 /// where a text can't be made: those that aren't there as they are spelled are made in a buffer,

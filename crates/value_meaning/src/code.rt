@@ -1,6 +1,8 @@
 //! The rules of values, by the numbers that a refusal of a module shows.
 
-/// The tree is one that some text has: the value that isn't. No tree that was read breaks this rule.
+/// The form is one that some text has, and types stand where types are asked: the value in which
+/// that isn't so. It is meant for trees that are made by hand, and for aliases of types that have
+/// another value.
 pub const SYNTAX: u32 = 1;
 
 /// Values nest at most 64 deep, aliases expanded: the value at nesting 65, or the mention of an

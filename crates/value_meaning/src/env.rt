@@ -17,7 +17,8 @@ pub struct Aliases {
 }
 
 impl Aliases {
-    /// The value of an alias of this kind and name. It takes no memory.
+    /// The id of the value of an alias of this kind and name, without its sign; `None` where none
+    /// is known. It takes no memory.
     pub fn get(&self, is_type: bool, name: &Text) -> Option<ValueId>
         ensures { result ≡ id_of self.now is_type name.now }
     {

@@ -1,4 +1,8 @@
-//! What a tree of a value means: its value, interned, or its first fault.
+//! What a tree of a value means: the value that it spells, and its faults.
+//!
+//! Begin at `specs/Meaning.antt` and `specs/Faults.antt`. Each form of a tree is judged from what is
+//! known of its kids, in `node`, `part`, `leaf` and `entries`. The call that goes over a whole tree
+//! is still to come; until then the crate hands out the rules' numbers, aliases and sets of keys.
 #![tactic(auto)]
 
 mod code;
