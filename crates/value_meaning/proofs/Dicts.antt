@@ -1,5 +1,5 @@
 -- What the judgement of entries shows of their dictionary.
-use Rattle.std.proofs.Common.{◌≡◌, ℕ, suc, ◌+◌, true, false, List, [], ◌∷◌, map, length}
+use Rattle.std.proofs.Common.{◌≡◌, ℕ, suc, ◌+◌, true, List, [], ◌∷◌, map, length}
 use Rattle.std.proofs.Common.{refl, sym, ◌∙◌, ap, subst, option_map, option_and_then}
 use Rattle.std.proofs.lemmas.List.Sorted.{IsPermutation-map}
 use Rattle.std.specs.List.{AllByRecursion}
@@ -10,12 +10,12 @@ use Rattle.attr_value.specs.declared.head.Head.TheVariants as h
 use Rattle.attr_value.specs.declared.head.ValueId.{ValueId}
 use Rattle.attr_value.specs.Ids.{at, kids_at}
 use Rattle.attr_value.specs.Values.{Value, list_of}
+use Rattle.first_fault.specs.declared.fault.Fault.{Fault}
 use Rattle.first_fault.specs.Firsts.{IsFirst}
 use Rattle.ir_lexer.specs.Spelling.{Text}
-use Rattle.value_meaning.specs.declared.entries.Entries.{Entries}
 use Rattle.value_meaning.specs.declared.judged.Kids.{Kids}
 use Rattle.value_meaning.specs.Entered.{seen_keys, entry_values, AreKeyed, AreGoodEntries}
-use Rattle.value_meaning.specs.Entered.{AreRightEntries, AreEntries}
+use Rattle.value_meaning.specs.Entered.{AreRightEntries}
 use Rattle.value_meaning.specs.Faults.{HasGood, IsFaultAmong}
 use Rattle.value_meaning.specs.Judging.{Ground, IsGood, IsRight, Judges, AreIdsOf, HaveRight}
 use Rattle.value_meaning.specs.Judging.{JudgesKids, IsOther, Keeps, IsNoBadInteger}
@@ -127,22 +127,24 @@ dict-other g es v kind e int =
     absurd (dict-other-head (map (λ p. p.0) it.sorted) kind (ap (λ x. x.head) (sym it.is) ∙ int))
 
 -- entries that aren't all good, or of which a key stands twice, are no good dictionary
-pub judges-no-dict : (g : Ground) (n : ℕ) (es : List EntrySeen) (old new : List Value)
-    (x : Entries) → AreEntries g (n + 1) es old x → x.good ≡ false
-    → Judges g n (dict_value es) (entries_marks (n + 1) [] es) new (judged None x.first)
-judges-no-dict g n es old new x are bad = record {
+pub judges-no-dict : (g : Ground) (n : ℕ) (es : List EntrySeen) (new : List Value)
+    (first : Option Fault) → ¬ AreGoodEntries g es
+    → IsFirst (IsFaultAmong g.table g.tests g.types (entries_marks (n + 1) [] es)) first
+    → (first ≡ None → AreRightEntries g (n + 1) es)
+    → Judges g n (dict_value es) (entries_marks (n + 1) [] es) new (judged None first)
+judges-no-dict g n es new first bad is right = record {
   some = tt;
-  none = λ good. are.none bad (good-entries g es good);
-  first = are.first;
+  none = λ good. bad (good-entries g es good);
+  first = is;
   right = λ e room.
-      let right = are.right e in
-      absurd (are.none bad (record {
+      let all = right e in
+      absurd (bad (record {
         all = record {
-          values_are = right.all.values_are;
-          are = right.all.spell;
-          good = all-good g (n + 1) right.all.values_are right.all.right;
+          values_are = all.all.values_are;
+          are = all.all.spell;
+          good = all-good g (n + 1) all.all.values_are all.all.right;
         };
-        distinct = right.distinct;
+        distinct = all.distinct;
       }));
   integer = dict-other g es;
 }

@@ -1,31 +1,36 @@
--- What is known of entries, as they are gathered one by one.
-use Rattle.std.proofs.Common.{◌≡◌, ◌<◌, ◌↔◌, ◌⊎◌, inl, inr, ℕ, Bool, true, false, ◌&&◌, not}
-use Rattle.std.proofs.Common.{IsTrue, List, [], ◌∷◌, ◌++◌, map, Contains, is_some, if◌then◌else◌}
-use Rattle.std.proofs.Common.{refl, sym, ◌∙◌, ap, subst, append_assoc, IfSome, IfNone}
-use Rattle.std.proofs.lemmas.Bool.{not-true}
-use Rattle.std.proofs.lemmas.List.{append-nil}
+-- Keys that stand twice, and entries whose values are judged.
+use Rattle.std.proofs.Common.{◌≡◌, ◌≢◌, ◌<◌, ◌≤◌, ◌↔◌, ◌⊎◌, inl, inr, ℕ, zero, suc, ◌+◌, Bool, true}
+use Rattle.std.proofs.Common.{false, IsTrue, is_some, Bor, arith, take, get_or}
+use Rattle.std.proofs.Common.{List, [], ◌∷◌, ◌++◌, map, length, zip, Contains}
+use Rattle.std.proofs.Common.{refl, sym, ◌∙◌, ap, subst, append_assoc}
+use Rattle.std.proofs.lemmas.List.{length-map, map-append, take_all, take_more}
+use Rattle.std.proofs.lemmas.Option.{slice_get-map, slice_get-get_or}
+use Rattle.std.specs.Slice.{IsItemAt}
+use Rattle.std.specs.Prelude.{option_map, slice_get}
 use Rattle.std.specs.declared.option.Option.{Option}
 use Rattle.std.specs.declared.option.Option.TheVariants.{Some, None}
 use Rattle.attr_value.specs.declared.head.ValueId.{ValueId}
-use Rattle.attr_value.specs.Ids.{AreKnown}
-use Rattle.attr_value.specs.Values.{Value}
-use Rattle.constraint_solver.specs.Grown.{Extends}
+use Rattle.attr_value.specs.Ids.{kids_at, AreKnown}
+use Rattle.attr_value.specs.Values.{Value, list_of}
 use Rattle.first_fault.specs.declared.fault.Fault.{Fault}
 use Rattle.first_fault.specs.Firsts.{earlier_of, IsFirst}
 use Rattle.first_fault.proofs.Firsts.{earlier_of-both-none}
+use Rattle.generic_syntax.specs.declared.cst.EntryCst.{EntryCst, out-EntryCst}
 use Rattle.ir_lexer.specs.Spelling.{Text}
-use Rattle.value_meaning.specs.declared.code.TheConstants.{KEY_REPEATED}
-use Rattle.value_meaning.specs.declared.entries.Entries.{Entries}
-use Rattle.value_meaning.specs.declared.judged.Judged.{Judged}
-use Rattle.value_meaning.specs.Entered.{seen_keys, entry_values, pairs_of, ids_of, paired, IsPut}
-use Rattle.value_meaning.specs.Entered.{AreKeyed, AreGoodEntries, AreRightEntries, AreEntries}
-use Rattle.value_meaning.specs.Faults.{HasGood, HaveGood, IsFaultAmong}
-use Rattle.value_meaning.specs.Judging.{Ground, IsIdOf, AreIdsOf, HaveRight, IsJudged}
-use Rattle.value_meaning.specs.Keys.{HasSeen, HasRepeat}
-use Rattle.value_meaning.specs.Meaning.{EntrySeen, entries_marks}
-use Rattle.value_meaning.proofs.EntryFaults.{first-key, first-entry, first-last}
-use Rattle.value_meaning.proofs.Gathering.{map-push, both-true, ids-grow, ids-push, good-push}
-use Rattle.value_meaning.proofs.Gathering.{right-push, known-push}
+use Rattle.value_meaning.specs.declared.dict.Entry.{Entry}
+use Rattle.value_meaning.specs.declared.judged.Kids.{Kids}
+use Rattle.value_meaning.specs.Dicts.{keyed}
+use Rattle.value_meaning.specs.Entered.{keys_of, seen_keys, seen_values, entry_values}
+use Rattle.value_meaning.specs.Entered.{IsFirstRepeat, AreKeyed, AreGoodEntries, AreRightEntries}
+use Rattle.value_meaning.specs.Faults.{IsFaultAmong}
+use Rattle.value_meaning.specs.Judging.{Ground, AreIdsOf, AreJudged}
+use Rattle.value_meaning.specs.Keys.{HasRepeat}
+use Rattle.value_meaning.specs.Meaning.{Aliases, EntrySeen, Seen, entries_marks, entry_seen, seen, seen_entry}
+use Rattle.value_meaning.proofs.Among.{first-nil}
+use Rattle.value_meaning.proofs.EntryFaults.{first-entries, first-key, first-keys, first-other, repeated}
+use Rattle.value_meaning.proofs.Gathering.{map-push}
+use Rattle.value_meaning.proofs.KidAt.{lent}
+use Rattle.value_meaning.proofs.Trees.{seen-entry}
 
 -- ---- keys that stand twice
 
@@ -84,141 +89,253 @@ repeat-last keys key among = record {
   among = among;
 }
 
--- ---- entries
+-- ---- the first of them
 
--- the ids stay known with one entry more, whose id is
-pub put-known : (len : ℕ) (old : Entries) (key : Text) (j : Judged) (new : Entries)
-    → IsPut old key j new → AreKnown len (ids_of old) → IfSome j.value (λ id. id.0 < len)
-    → AreKnown len (ids_of new)
-put-known len old key j new put known less =
-    subst (λ ps. AreKnown len (map (λ p. p.1) ps)) (sym put.pairs) (go j.value less)
-  where
-    go : (value : Option ValueId) → IfSome value (λ id. id.0 < len)
-        → AreKnown len (map (λ p. p.1) (pairs_of old ++ paired key value))
-    go None less =
-        subst (λ ps. AreKnown len (map (λ p. p.1) ps)) (sym (append-nil (pairs_of old))) known
-    go (Some id) less =
-        subst (AreKnown len) (sym (map-push (λ p. p.1) (pairs_of old) (key, id)))
-        (known-push len (ids_of old) id known less)
+-- the earlier of something and nothing
+earlier-none : (a : Option Fault) → earlier_of a None ≡ a
+earlier-none None = refl
+earlier-none (Some f) = refl
 
--- the fault of a key that stands before
-abbrev pub key_fault : ℕ → Bool → Option Fault
-key_fault place known = if known then Some (record { place = place; code = KEY_REPEATED }) else None
+-- no key stands twice among none
+pub repeat-none : IsFirstRepeat [] None
+repeat-none = record {
+  first = λ g. first-nil g.table g.tests g.types;
+  none = λ e r. elim r.before_it as (λ b. [] ≡ b ++ r.key ∷ r.after → ⊥) [
+    | [] ↦ λ no. absurd (cc)
+    | (k ∷ ks) ↦ λ no. absurd (cc)
+  ] r.cut;
+  some = λ no. absurd (no refl);
+}
 
--- what an entry changes, whose key is known or not
-pub record IsEntered (old : Entries) (e : EntrySeen) (known : Bool) (j : Judged) (new : Entries)
-    : Type 0 where
-  pub pairs : pairs_of new ≡ pairs_of old ++ paired e.key j.value
-  pub good : new.good ≡ (not known && old.good) && is_some j.value
-  pub first : new.first ≡ earlier_of old.first (earlier_of (key_fault e.place known) j.first)
-
-module _ (g : Ground) (n : ℕ) (es : List EntrySeen) (e : EntrySeen) (old new : List Value)
-    (grown : Extends old new) (x : Entries) (j : Judged) (next : Entries) (known : Bool)
-    (before : AreEntries g n es old x) (y : IsJudged g n e.seen new j)
-    (is : IsTrue known ↔ Contains (seen_keys es) e.key) (entered : IsEntered x e known j next) where
-  abbrev all : List EntrySeen
-  all = es ++ e ∷ []
-
-  keys-all : seen_keys all ≡ seen_keys es ++ e.key ∷ []
+module _ (es : List EntrySeen) (e : EntrySeen) (first : Option Fault)
+    (x : IsFirstRepeat es first) where
+  keys-all : seen_keys (es ++ e ∷ []) ≡ seen_keys es ++ e.key ∷ []
   keys-all = map-push (λ d. d.key) es e
 
-  values-all : entry_values all ≡ entry_values es ++ e.seen.value ∷ []
-  values-all = map-push (λ d. d.seen.value) es e
-
-  -- no key stands twice among them, where none did and the last is another
-  distinct-all : known ≡ false → ¬ HasRepeat (seen_keys es) → ¬ HasRepeat (seen_keys all)
-  distinct-all unknown distinct r =
-      elim (repeat-push (seen_keys es) e.key (subst HasRepeat keys-all r)) [
-        | inl earlier ↦ distinct earlier
-        | inr among ↦ let no : true ≡ false = sym (is.1 among) ∙ unknown in absurd (cc)
-      ]
-
-  -- where all are good, all but the last are, the last is, and its key is another
-  good-all : AreGoodEntries g all
-      → AreGoodEntries g es × HasGood g.table g.tests g.types e.seen.value × ¬ IsTrue known
-  good-all good =
-      let parts = good-push g n (entry_values es) e.seen.value
-      (subst (HaveGood g.table g.tests g.types) values-all good.all) in
-      let twice = λ (r : HasRepeat (seen_keys es ++ e.key ∷ [])).
-      good.distinct (subst HasRepeat (sym keys-all) r) in (
-        record {
-          all = parts.0;
-          distinct = λ r. twice (repeat-more (seen_keys es) e.key r);
-        },
-        parts.1,
-        λ yes. twice (repeat-last (seen_keys es) e.key (is.0 yes)),
-      )
-
-  -- the keys and ids, where all are good
-  some-all : (value : Option ValueId) → j.value ≡ value
-      → (not known && x.good) && is_some value ≡ true
-      → AreKeyed g all new (pairs_of x ++ paired e.key value)
-  some-all None value-is good =
-      let no : false ≡ true = (both-true (not known && x.good) false good).1 in absurd (cc)
-  some-all (Some id) value-is good =
-      let parts = both-true (not known) x.good (both-true (not known && x.good) true good).0 in
-      let earlier = before.some parts.1 in
-      let last : IsIdOf g e.seen.value new id =
-      subst (λ v. IfSome v (IsIdOf g e.seen.value new)) value-is y.judges.some in
-      record {
-        keys = map-push (λ p. p.0) (pairs_of x) (e.key, id)
-            ∙ ap (λ ks. ks ++ e.key ∷ []) earlier.keys
-            ∙ sym keys-all;
-        ids = subst (λ vs. AreIdsOf g vs new (map (λ p. p.1) (pairs_of x ++ (e.key, id) ∷ [])))
-            (sym values-all)
-            (subst (AreIdsOf g (entry_values es ++ e.seen.value ∷ []) new)
-            (sym (map-push (λ p. p.1) (pairs_of x) (e.key, id)))
-            (ids-push g n (entry_values es) e.seen.value new (map (λ p. p.1) (pairs_of x)) id
-            (ids-grow g n (entry_values es) (map (λ p. p.1) (pairs_of x)) grown earlier.ids)
-            last));
-        distinct = distinct-all (not-true known parts.0) earlier.distinct;
-      }
-
-  -- not all are good, where one isn't or a key stands twice
-  none-all : (not known && x.good) && is_some j.value ≡ false → ¬ AreGoodEntries g all
-  none-all bad good =
-      let parts = good-all good in
-      go known x.good j.value refl refl refl bad parts.0 parts.1 parts.2
-    where
-      go : (b was : Bool) (value : Option ValueId) → known ≡ b → x.good ≡ was → j.value ≡ value
-          → (not b && was) && is_some value ≡ false → AreGoodEntries g es
-          → HasGood g.table g.tests g.types e.seen.value → ¬ IsTrue known → ⊥
-      go true was value a b c not-all earlier last other = other a
-      go false false value a b c not-all earlier last other = before.none b earlier
-      go false true None a b c not-all earlier last other =
-          subst (λ v. IfNone v (HasGood g.table g.tests g.types e.seen.value → ⊥)) c
-          y.judges.none last
-      go false true (Some id) a b c not-all earlier last other = absurd (cc)
-
-  -- where there is no fault, all are right and no key stands twice
-  right-all : earlier_of x.first (earlier_of (key_fault e.place known) j.first) ≡ None
-      → AreRightEntries g n all
-  right-all none =
-      let both = earlier_of-both-none x.first (earlier_of (key_fault e.place known) j.first) none in
-      let last = earlier_of-both-none (key_fault e.place known) j.first both.1 in
-      let earlier = before.right both.0 in
-      record {
-        all = subst (HaveRight g n) (sym values-all)
-            (right-push g n (entry_values es) e.seen.value earlier.all (y.right last.1));
-        distinct = distinct-all (unknown known last.0) earlier.distinct;
-      }
-    where
-      unknown : (b : Bool) → key_fault e.place b ≡ None → b ≡ false
-      unknown true e = absurd (cc)
-      unknown false e = refl
-
-  -- with one entry more
-  pub entries-add : HasSeen (seen_keys es ++ e.key ∷ []) next.seen → AreEntries g n all new next
-  entries-add seen = record {
-    seen = subst (λ ks. HasSeen ks next.seen) (sym keys-all) seen;
-    some = λ good. subst (AreKeyed g all new) (sym entered.pairs)
-        (some-all j.value refl (sym entered.good ∙ good));
-    none = λ bad. none-all (sym entered.good ∙ bad);
-    first = subst (IsFirst (IsFaultAmong g.table g.tests g.types (entries_marks n [] all)))
-        (sym entered.first)
-        (first-last g.table g.tests g.types n [] es e x.first
-        (earlier_of (key_fault e.place known) j.first) before.first
-        (first-entry g.table g.tests g.types n (seen_keys es) e (key_fault e.place known) j.first
-        (first-key g.table g.tests g.types (seen_keys es) e known is) y.judges.first));
-    right = λ none. right-all (sym entered.first ∙ none);
+  -- one more, whose key stands before
+  pub repeat-again : Contains (seen_keys es) e.key
+      → IsFirstRepeat (es ++ e ∷ []) (earlier_of first (Some (repeated e.place)))
+  repeat-again among = record {
+    first = λ g. first-keys g es e first (Some (repeated e.place)) (x.first g)
+        (first-key g (seen_keys es) e among);
+    none = λ no.
+        let both = (earlier_of-both-none first (Some (repeated e.place)) no).1 in absurd (cc);
+    some = λ no. subst HasRepeat (sym keys-all) (repeat-last (seen_keys es) e.key among);
   }
+
+  -- one more, whose key doesn't
+  pub repeat-other : ¬ Contains (seen_keys es) e.key → IsFirstRepeat (es ++ e ∷ []) first
+  repeat-other new = record {
+    first = λ g. subst (IsFirst (IsFaultAmong g.table g.tests g.types _)) (earlier-none first)
+        (first-keys g es e first None (x.first g) (first-other g (seen_keys es) e new));
+    none = λ no r. elim (repeat-push (seen_keys es) e.key (subst HasRepeat keys-all r)) [
+      | inl earlier ↦ x.none no earlier
+      | inr among ↦ new among
+    ];
+    some = λ no.
+        subst HasRepeat (sym keys-all) (repeat-more (seen_keys es) e.key (x.some no));
+  }
+
+-- ---- keys and ids
+
+-- the key and the place that are seen of an entry
+pub key-seen : (al : Aliases) (e : EntryCst) → ((entry_seen al e).key ≡ (out-EntryCst e).key)
+    × ((entry_seen al e).place ≡ (out-EntryCst e).place)
+key-seen al e =
+    let both = go (out-EntryCst e).place (out-EntryCst e).key
+    (option_map (seen al) (out-EntryCst e).value) in
+    (ap (λ x. x.key) (seen-entry al e) ∙ both.0, ap (λ x. x.place) (seen-entry al e) ∙ both.1)
+  where
+    go : (place : ℕ) (key : Text) (v : Option Seen)
+        → ((seen_entry place key v).key ≡ key) × ((seen_entry place key v).place ≡ place)
+    go place key None = (refl, refl)
+    go place key (Some v) = (refl, refl)
+
+-- the keys that are seen of entries are theirs
+pub keys-seen : (al : Aliases) (es : List EntryCst) → seen_keys (map (entry_seen al) es) ≡ keys_of es
+keys-seen al [] = refl
+keys-seen al (e ∷ es) =
+    ap (λ k. k ∷ seen_keys (map (entry_seen al) es)) (key-seen al e).0
+    ∙ ap (λ ks. (out-EntryCst e).key ∷ ks) (keys-seen al es)
+
+-- what is made of a list as far as the next item
+pub map-next : {A B : Type 0} (f : A → B) (xs : List A) (i : ℕ) (x : A) → i < length xs
+    → x ≡ get_or xs i x → map f (take (i + 1) xs) ≡ map f (take i xs) ++ f x ∷ []
+map-next f xs i x inside at =
+    ap (map f) (take_more xs i x inside ∙ ap (λ it. take i xs ++ it ∷ []) (sym at))
+    ∙ map-append f (take i xs) (x ∷ [])
+
+module _ (al : Aliases) (es : List EntryCst) (i : ℕ) (e : EntryCst) (inside : i < length es)
+    (at : e ≡ get_or es i e) (first : Option Fault) (known : Bool)
+    (x : IsFirstRepeat (map (entry_seen al) (take i es)) first)
+    (is : IsTrue known ↔ Contains (keys_of (take i es)) (out-EntryCst e).key) where
+  -- the entries as far as this one
+  so-far : map (entry_seen al) (take (i + 1) es) ≡ map (entry_seen al) (take i es) ++ entry_seen al e ∷ []
+  so-far = map-next (entry_seen al) es i e inside at
+
+  -- its key stands before
+  pub next-again : known ≡ true
+      → IsFirstRepeat (map (entry_seen al) (take (i + 1) es))
+      (earlier_of first (Some (repeated (out-EntryCst e).place)))
+  next-again stands =
+      subst (λ (l : List EntrySeen).
+      IsFirstRepeat l (earlier_of first (Some (repeated (out-EntryCst e).place)))) (sym so-far)
+      (subst (λ (p : ℕ). IsFirstRepeat (map (entry_seen al) (take i es) ++ entry_seen al e ∷ [])
+      (earlier_of first (Some (repeated p)))) (key-seen al e).1
+      (repeat-again (map (entry_seen al) (take i es)) (entry_seen al e) first x
+      (subst (λ (k : Text). Contains (seen_keys (map (entry_seen al) (take i es))) k)
+      (sym (key-seen al e).0)
+      (subst (λ (ks : List Text). Contains ks (out-EntryCst e).key) (sym (keys-seen al (take i es)))
+      (is.0 stands)))))
+
+  -- its key doesn't
+  pub next-other : known ≡ false → IsFirstRepeat (map (entry_seen al) (take (i + 1) es)) first
+  next-other new =
+      subst (λ (l : List EntrySeen). IsFirstRepeat l first) (sym so-far)
+      (repeat-other (map (entry_seen al) (take i es)) (entry_seen al e) first x
+      (λ among. absurd (no-true known new (is.1
+      (subst (λ (ks : List Text). Contains ks (out-EntryCst e).key) (keys-seen al (take i es))
+      (subst (λ (k : Text). Contains (seen_keys (map (entry_seen al) (take i es))) k)
+      (key-seen al e).0 among))))))
+    where
+      no-true : (b : Bool) → b ≡ false → b ≡ true → ⊥
+      no-true true e is = absurd (cc)
+      no-true false e is = absurd (cc)
+
+-- ---- keys beside ids
+
+zip-next : (ks : List Text) (ids : List ValueId) (i : ℕ) (k : Text) (id : ValueId)
+    → slice_get ks i ≡ Some k → slice_get ids i ≡ Some id
+    → zip (take (suc i) ks) (take (suc i) ids) ≡ zip (take i ks) (take i ids) ++ (k, id) ∷ []
+zip-next [] ids i k id a b = absurd (cc)
+zip-next (x ∷ ks) [] i k id a b = absurd (cc)
+zip-next (x ∷ ks) (y ∷ ids) zero k id a b =
+    let key : x ≡ k = cc in
+    let same : y ≡ id = cc in
+    ap (λ z. (z, y) ∷ []) key ∙ ap (λ z. (k, z) ∷ []) same
+zip-next (x ∷ ks) (y ∷ ids) (suc i) k id a b = ap (λ l. (x, y) ∷ l) (zip-next ks ids i k id a b)
+
+zip-past : (ks : List Text) (ids : List ValueId) (i : ℕ) → length ks ≤ i ⊎ length ids ≤ i
+    → zip (take i ks) (take i ids) ≡ zip ks ids
+zip-past [] ids i past = ap (λ l. zip l (take i ids)) (take_all i [] (omega (arith)))
+zip-past (k ∷ ks) [] zero past = refl
+zip-past (k ∷ ks) [] (suc i) past = refl
+zip-past (k ∷ ks) (id ∷ ids) zero (inl past) = absurd (omega (arith, past))
+zip-past (k ∷ ks) (id ∷ ids) zero (inr past) = absurd (omega (arith, past))
+zip-past (k ∷ ks) (id ∷ ids) (suc i) (inl past) =
+    ap (λ l. (k, id) ∷ l) (zip-past ks ids i (inl (omega (arith, past))))
+zip-past (k ∷ ks) (id ∷ ids) (suc i) (inr past) =
+    ap (λ l. (k, id) ∷ l) (zip-past ks ids i (inr (omega (arith, past))))
+
+-- the first entries' keys, each with the id at its place
+pub record ArePaired (es : List EntryCst) (ids : List ValueId) (i : ℕ) (pairs : List Entry)
+    : Type 0 where
+  pub within : i ≤ length ids
+  pub are : keyed pairs ≡ zip (take i (keys_of es)) (take i ids)
+
+module _ (es : List EntryCst) (ids : List ValueId) where
+  pub paired-none : (pairs : List Entry) → pairs ≡ [] → ArePaired es ids 0 pairs
+  paired-none pairs none = record {
+    within = omega (arith);
+    are = ap keyed none;
+  }
+
+  pub paired-next : (i : ℕ) (pairs next : List Entry) (e : EntryCst) (k : ℕ) (v : Bor ValueId)
+      (entry : Entry) → ArePaired es ids i pairs → i < length es → e ≡ get_or es i e
+      → k ≡ i → IsItemAt ids k (Some v) → next ≡ pairs ++ entry ∷ []
+      → entry.key.now ≡ (out-EntryCst e).key → entry.value ≡ v.now → ArePaired es ids (i + 1) next
+  paired-next i pairs next e k v entry x inside at here it is key value = record {
+    within = omega (arith, it.3.0, here);
+    are =
+        ap keyed is
+        ∙ map-append (λ (d : Entry). (d.key.now, d.value)) pairs (entry ∷ [])
+        ∙ ap (λ l. l ++ (entry.key.now, entry.value) ∷ []) x.are
+        ∙ ap (λ t. zip (take i (keys_of es)) (take i ids) ++ (t, entry.value) ∷ []) key
+        ∙ ap (λ t. zip (take i (keys_of es)) (take i ids) ++ ((out-EntryCst e).key, t) ∷ []) value
+        ∙ sym (zip-next (keys_of es) ids i (out-EntryCst e).key v.now key-here
+        (ap (slice_get ids) (sym here) ∙ lent ids k v it))
+        ∙ ap (λ j. zip (take j (keys_of es)) (take j ids)) next-is;
+  }
+    where
+      next-is : suc i ≡ i + 1
+      next-is = omega (arith)
+
+      key-here : slice_get (keys_of es) i ≡ Some (out-EntryCst e).key
+      key-here =
+          slice_get-map (λ d. (out-EntryCst d).key) es i
+          ∙ ap (option_map (λ d. (out-EntryCst d).key))
+          (slice_get-get_or es i e inside ∙ ap Some (sym at))
+
+  pub paired-all : (i : ℕ) (pairs : List Entry) → ArePaired es ids i pairs
+      → length es ≤ i ⊎ length ids ≤ i → keyed pairs ≡ zip (keys_of es) ids
+  paired-all i pairs x past = x.are ∙ zip-past (keys_of es) ids i (go past)
+    where
+      go : length es ≤ i ⊎ length ids ≤ i → length (keys_of es) ≤ i ⊎ length ids ≤ i
+      go (inl few) = inl (omega (arith, few, length-map es (λ d. (out-EntryCst d).key)))
+      go (inr few) = inr few
+
+-- what isn't something is nothing
+pub not-some : (a : Option Fault) → is_some a ≡ false → a ≡ None
+not-some None e = refl
+not-some (Some f) e = absurd (cc)
+
+-- pairs' ids are known where all ids are
+pub zip-known : (n : ℕ) (ks : List Text) (ids : List ValueId) → AreKnown n ids
+    → AreKnown n (map (λ p. p.1) (zip ks ids))
+zip-known n [] ids known = tt
+zip-known n (k ∷ ks) [] known = tt
+zip-known n (k ∷ ks) (id ∷ ids) known = (known.0, zip-known n ks ids known.1)
+
+-- keys and ids of one number are the halves of their pairs
+zip-halves : (ks : List Text) (ids : List ValueId) → length ks ≡ length ids
+    → (map (λ p. p.0) (zip ks ids) ≡ ks) × (map (λ p. p.1) (zip ks ids) ≡ ids)
+zip-halves [] [] e = (refl, refl)
+zip-halves [] (id ∷ ids) e = absurd (cc)
+zip-halves (k ∷ ks) [] e = absurd (cc)
+zip-halves (k ∷ ks) (id ∷ ids) e =
+    let rest = zip-halves ks ids (cc) in
+    (ap (λ l. k ∷ l) rest.0, ap (λ l. id ∷ l) rest.1)
+
+-- entries that spell the values of ids are as many
+ids-count : (table : List Value) (es : List EntrySeen) (ids : List ValueId)
+    → entry_values es ≡ map Some (list_of (kids_at table ids)) → length (seen_keys es) ≡ length ids
+ids-count table [] [] e = refl
+ids-count table [] (id ∷ ids) e = absurd (cc)
+ids-count table (d ∷ es) [] e = absurd (cc)
+ids-count table (d ∷ es) (id ∷ ids) e = ap suc (ids-count table es ids (cc))
+
+-- ---- entries
+
+module _ (g : Ground) (n : ℕ) (es : List EntrySeen) (table : List Value) (k : Kids)
+    (kids : AreJudged g n (seen_values es) table k) (repeat : Option Fault)
+    (keys : IsFirstRepeat es repeat) where
+  -- the first fault of entries
+  pub entries-first : IsFirst (IsFaultAmong g.table g.tests g.types (entries_marks n [] es))
+      (earlier_of repeat k.first)
+  entries-first = first-entries g n es repeat k.first (keys.first g) kids.first
+
+  -- where there is none, all is right
+  pub entries-right : earlier_of repeat k.first ≡ None → AreRightEntries g n es
+  entries-right e =
+      let both = earlier_of-both-none repeat k.first e in
+      record { all = kids.right both.1; distinct = keys.none both.0 }
+
+  -- a value isn't good
+  pub entries-bad : k.all_good ≡ false → ¬ AreGoodEntries g es
+  entries-bad bad good = kids.none bad good.all
+
+  -- a key stands twice
+  pub entries-twice : repeat ≢ None → ¬ AreGoodEntries g es
+  entries-twice some good = good.distinct (keys.some some)
+
+  -- all are good, and no key stands twice
+  pub entries-keyed : k.all_good ≡ true → repeat ≡ None
+      → AreKeyed g es table (zip (seen_keys es) k.ids.items)
+  entries-keyed all none =
+      let ids = kids.some all in
+      let halves = zip-halves (seen_keys es) k.ids.items (ids-count table es k.ids.items ids.spell) in
+      record {
+        keys = halves.0;
+        ids = subst (AreIdsOf g (entry_values es) table) (sym halves.1) ids;
+        distinct = keys.none none;
+      }

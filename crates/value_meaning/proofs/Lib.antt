@@ -20,8 +20,8 @@ pub mod Folds
 pub mod Trees
 pub mod Joining
 pub mod Integers
-pub mod Forms
-pub mod Listing
+pub mod KidsOf
+pub mod KidAt
 pub mod Growing
 pub mod Mentions
 pub mod Leaves
@@ -31,3 +31,7 @@ pub mod Named
 pub mod Dialects
 pub mod Numbers
 pub mod Arrays
+pub mod Forms
+pub mod Listing
+pub mod Answered
+pub mod AliasesKept

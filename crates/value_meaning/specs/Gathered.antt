@@ -1,7 +1,6 @@
 -- How what is known of some trees grows by one tree more.
 --
 --   IsAdded old j new     what is known of one more tree stands behind the others
---   IsJoined old more new what is known of other trees stands behind the others
 --
 -- Inside: no public clause rests on this.
 use Rattle.std.specs.Prelude.{◌≡◌, ◌&&◌, List, [], ◌∷◌, ◌++◌, is_some}
@@ -22,9 +21,3 @@ pub record IsAdded (old : Kids) (j : Judged) (new : Kids) : Type 0 where
   pub ids : new.ids.items ≡ old.ids.items ++ listed j.value
   pub all_good : new.all_good ≡ old.all_good && is_some j.value
   pub first : new.first ≡ earlier_of old.first j.first
-
--- the ids of other trees stand behind the others
-pub record IsJoined (old more new : Kids) : Type 0 where
-  pub ids : new.ids.items ≡ old.ids.items ++ more.ids.items
-  pub all_good : new.all_good ≡ old.all_good && more.all_good
-  pub first : new.first ≡ earlier_of old.first more.first

@@ -12,9 +12,11 @@
 --   IsJudged g n s new j   it is so of a tree of which s is seen
 --   AreJudged ..           k is that of some trees
 --   JudgesKids ..          the same of kids, whose values are good together or not at all
+--   IsOnly k j             j is that of the only one of some trees
 --
 -- Inside: no public clause rests on this.
-use Rattle.std.specs.Prelude.{◌≡◌, ◌<◌, ◌≤◌, ℕ, ◌+◌, min, Bool, true, false, List, map, length}
+use Rattle.std.specs.Prelude.{◌≡◌, ◌<◌, ◌≤◌, ℕ, ◌+◌, min, Bool, true, false}
+use Rattle.std.specs.Prelude.{List, [], ◌∷◌, map, length}
 use Rattle.std.specs.Prelude.{IfSome, IfNone, option_map}
 use Rattle.std.specs.List.{AllByRecursion, flat_map}
 use Rattle.std.specs.declared.option.Option.{Option}
@@ -37,6 +39,7 @@ use Rattle.dialect_defs.specs.Goodness.{Good, IsDefined}
 use Rattle.first_fault.specs.Firsts.{IsFirst}
 use Rattle.value_meaning.specs.declared.judged.Judged.{Judged}
 use Rattle.value_meaning.specs.declared.judged.Kids.{Kids}
+use Rattle.value_meaning.specs.AliasTable.{AliasIds}
 use Rattle.value_meaning.specs.Faults.{HasGood, HaveGood, IsFaultAmong}
 use Rattle.value_meaning.specs.Meaning.{Aliases, Mark, Seen}
 
@@ -124,6 +127,11 @@ abbrev pub AreJudged : Ground → ℕ → List Seen → List Value → Kids → 
 AreJudged g n ss new k =
     JudgesKids g n (map (λ s. s.value) ss) (flat_map (λ s. s.marks n) ss) new k
 
+-- j is that of the only one of some trees
+abbrev pub IsOnly : Kids → Judged → Type 0
+IsOnly k j = (g : Ground) (n : ℕ) (s : Seen) (new : List Value) → AreJudged g n (s ∷ []) new k
+    → IsNoBadInteger g s.value → IsJudged g n s new j
+
 -- ---- heads
 
 -- values with this head are no integer types
@@ -142,10 +150,6 @@ pub record IsOfTypes (g : Ground) (head : Head) (count : ℕ) : Type 0 where
       → Keeps g head kids
 
 -- ---- what trees are judged by
-
--- ids of aliases that are there, of types and of attributes
-abbrev pub AliasIds : Type 0
-AliasIds = Bool → Text → Option ValueId
 
 -- predicates and how many there are, definitions, and aliases
 pub record Basis : Type 0 where

@@ -8,3 +8,5 @@ pub mod Bases
 pub mod Keys
 pub mod Dicts
 pub mod Entered
+pub mod KidsSeen
+pub mod Refusals

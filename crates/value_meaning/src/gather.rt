@@ -1,16 +1,13 @@
-//! Values where they stand, and how they are put together as the kids of one.
+//! Values where they stand, and the only kid of one.
 
-ghost use Rattle.std.specs.Prelude.{◌≡◌, ◌<◌, ℕ, ◌+◌, ◌++◌, ◌∷◌, [], List, length};
-ghost use Rattle.std.specs.Prelude.{IfOk, IfSome, OnOk};
+ghost use Rattle.std.specs.Prelude.{◌≡◌, ◌<◌, ℕ, ◌+◌, List, length, IfOk, IfSome};
 ghost use Rattle.attr_value.specs.Ids.{AreKnown};
 ghost use Rattle.attr_value.specs.Values.{Value};
 ghost use Rattle.constraint_solver.specs.Grown.{Extends};
 ghost use Rattle.first_fault.specs.Firsts.{IsFirst};
 ghost use Rattle.value_meaning.specs.Faults.{IsFaultOf};
-ghost use Rattle.value_meaning.specs.Gathered.{IsJoined};
-ghost use Rattle.value_meaning.specs.Judging.{AreJudged, counted, Ground, IsJudged};
-ghost use Rattle.value_meaning.specs.Judging.{IsNoBadInteger, Judges};
-ghost use Rattle.value_meaning.specs.Meaning.{Seen, NodeSeen, seen_at, seen_unit};
+ghost use Rattle.value_meaning.specs.Judging.{counted, Ground, IsJudged, IsOnly, Judges};
+ghost use Rattle.value_meaning.specs.Meaning.{NodeSeen, seen_at, seen_unit};
 ghost use Rattle.value_meaning.specs.Meaning.{claim_at, stands};
 
 use crate::code::NESTING;
@@ -18,7 +15,7 @@ use crate::judged::{Judged, Kids};
 use crate::node::leaf_of;
 use attr_uniquer::Uniquer;
 use attr_value::{DEPTH_LIMIT, Head};
-use first_fault::{Fault, earlier};
+use first_fault::Fault;
 use generic_syntax::TOO_DEEP;
 use std::alloc::AllocError;
 
@@ -48,7 +45,7 @@ fn room_fault(place: u32, nesting: u32) -> Option<Fault>
 }
 
 /// A value at its place: where there is no room for it, that is a fault.
-fn stood(node: Judged, place: u32, nesting: u32) -> Judged
+pub fn stood(node: Judged, place: u32, nesting: u32) -> Judged
     ensures value { result.value ≡ node.value }
     ensures judged { (g : Ground) (n : ℕ) (s : NodeSeen) (new : List Value) →
         nesting ≡ counted n → Judges g n s.value (s.marks place n) new node →
@@ -69,35 +66,11 @@ pub fn unit(u: &mut Uniquer, place: u32, nesting: u32) -> Result<Judged, AllocEr
 }
 
 impl Kids {
-    /// Puts a value that stands at a place behind the others. An error is handed on.
-    pub fn put(
-        &mut self,
-        node: Result<Judged, AllocError>,
-        place: u32,
-        nesting: u32,
-    ) -> Result<(), AllocError>
-        ensures known { (len : ℕ) → AreKnown len self.old.ids.items →
-            IfOk node (λ j. IfSome j.value (λ id. id.0 < len)) →
-            OnOk result (AreKnown len self.new.ids.items) }
-        ensures judged { (g : Ground) (n : ℕ) (ss : List Seen) (s : NodeSeen)
-            (old new : List Value) → nesting ≡ counted n → Extends old new →
-            AreJudged g n ss old self.old →
-            IfOk node (Judges g n s.value (s.marks place n) new) →
-            OnOk result (AreJudged g n (ss ++ seen_at place s ∷ []) new self.new) }
-    {
-        match node {
-            Ok(node) => self.add(stood(node, place, nesting)),
-            Err(error) => Err(error),
-        }
-    }
-
     /// What is known of the one tree that these are of.
     pub fn only(self) -> Judged
         ensures known { (len : ℕ) → AreKnown len self.ids.items →
             IfSome result.value (λ id. id.0 < len) }
-        ensures judged { (g : Ground) (n : ℕ) (s : Seen) (new : List Value) →
-            AreJudged g n (s ∷ []) new self → IsNoBadInteger g s.value →
-            IsJudged g n s new result }
+        ensures judged { IsOnly self result }
     {
         if !self.all_good {
             return Judged {
@@ -109,14 +82,5 @@ impl Kids {
             value: self.ids.first().copied(),
             first: self.first,
         }
-    }
-
-    /// Puts what is known of other trees behind the others.
-    pub fn append(&mut self, mut more: Kids) -> Result<(), AllocError>
-        ensures { OnOk result (IsJoined self.old more self.new) }
-    {
-        self.first = earlier(self.first, more.first);
-        self.all_good &= more.all_good;
-        self.ids.append(&mut more.ids)
     }
 }

@@ -1,8 +1,8 @@
 //! What a tree of a value means: the value that it spells, and its faults.
 //!
-//! Begin at `specs/Meaning.antt` and `specs/Faults.antt`. Each form of a tree is judged from what is
-//! known of its kids, in `node`, `part`, `leaf` and `entries`. The call that goes over a whole tree
-//! is still to come; until then the crate hands out the rules' numbers, aliases and sets of keys.
+//! Begin at `value_in`, `specs/Meaning.antt` and `specs/Faults.antt`. A tree is judged in `judge`:
+//! first what stands in a value, and then its form from what is known of that, in `form` and the
+//! modules that it calls.
 #![tactic(auto)]
 
 mod code;
@@ -11,19 +11,24 @@ mod dict;
 mod digits;
 mod entries;
 mod env;
+mod form;
 mod gather;
+mod judge;
 mod judged;
 mod keys;
+mod kid;
 mod leaf;
 mod node;
 mod number;
 mod part;
 mod shape;
+mod value;
 mod word;
 
 pub use code::{ALIAS_UNKNOWN, INT_RANGE, KEY_REPEATED, NAME_UNKNOWN, NESTING, PARAMETERS, SYNTAX};
 pub use env::Aliases;
 pub use keys::KeySet;
+pub use value::{ValueStop, value_in};
 
 #[cfg(test)]
 mod tests;

@@ -1,0 +1,73 @@
+//! The value of a whole tree.
+
+ghost use Rattle.std.specs.Prelude.{◌<◌, length, IfErr, IfOk};
+ghost use Rattle.std.specs.declared.option.Option.TheVariants.{None};
+ghost use Rattle.attr_value.specs.Ids.{at};
+ghost use Rattle.constraint_solver.specs.Definitions.{AreSoundDefs};
+ghost use Rattle.constraint_solver.specs.Grown.{Extends};
+ghost use Rattle.first_fault.specs.Firsts.{IsFirst};
+ghost use Rattle.native_predicate.specs.Lists.{count, tests};
+ghost use Rattle.value_meaning.specs.AliasTable.{alias_values, AreGoodAliases};
+ghost use Rattle.value_meaning.specs.Faults.{IsFault, Means};
+ghost use Rattle.value_meaning.specs.Refusals.{RefusesValue};
+
+use crate::env::{Aliases, Env};
+use crate::judge::judge;
+use attr_uniquer::Uniquer;
+use attr_value::ValueId;
+use dialect_defs::TypeDef;
+use first_fault::Fault;
+use generic_syntax::ValueCst;
+use native_predicate::Natives;
+use std::alloc::Global;
+
+/// Why a tree has no value.
+#[derive(Clone, Copy, Debug, PartialEq, Eq)]
+pub enum ValueStop {
+    /// A rule is broken, as by a key that stands twice. The place is one of the tree's, and the
+    /// code is the number of the rule, [`SYNTAX`](crate::SYNTAX) to
+    /// [`INT_RANGE`](crate::INT_RANGE).
+    Refused(Fault),
+    /// Memory ran out.
+    OutOfMemory,
+}
+
+/// The id of the value of a tree that stands by itself, at nesting 1; or its first fault: that with
+/// the least place, and there with the least number of a rule. Aliases are those that are known.
+///
+/// The value is interned, and so are its parts, also where there is a fault or memory runs out;
+/// values that were in the table before keep their ids. Definitions name values of the table, and
+/// the first of several of one name counts. It recurses as deep as the tree is.
+pub fn value_in(
+    alloc: Global,
+    u: &mut Uniquer,
+    types: &[TypeDef],
+    natives: &Natives,
+    cst: &ValueCst,
+    aliases: &Aliases,
+) -> Result<ValueId, ValueStop>
+    requires defs { AreSoundDefs (length u.old) (count natives.now) types.now }
+    requires aliases { AreGoodAliases u.old (tests property natives.now) types.now aliases.now }
+    ensures later { Extends u.old u.new }
+    ensures known { IfOk result (λ id. id.0 < length u.new) }
+    ensures ok { IfOk result (λ id. Means u.old (tests property natives.now) types.now
+        (alias_values u.old aliases.now) cst.now (at u.new id.0)) }
+    ensures right { IfOk result (λ id. IsFirst (IsFault u.old (tests property natives.now) types.now
+        (alias_values u.old aliases.now) 1 cst.now) None) }
+    ensures refused { IfErr result (RefusesValue (IsFault u.old (tests property natives.now)
+        types.now (alias_values u.old aliases.now) 1 cst.now)) }
+{
+    let env = Env {
+        alloc,
+        types,
+        natives,
+        aliases,
+    };
+    let Ok(judged) = judge(&env, u, cst, 1) else {
+        return Err(ValueStop::OutOfMemory);
+    };
+    match judged.first {
+        Some(fault) => Err(ValueStop::Refused(fault)),
+        None => Ok(judged.value.unwrap()),
+    }
+}
