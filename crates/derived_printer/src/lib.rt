@@ -9,10 +9,12 @@
 mod laws;
 mod leaf;
 mod spell;
+mod spellable;
 mod token;
 mod value;
 
 pub use laws::value_reads_back;
+pub use spellable::are_spellable;
 pub use value::print_value;
 
 #[cfg(test)]

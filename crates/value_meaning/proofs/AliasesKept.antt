@@ -76,3 +76,13 @@ aliases-more table tests types old new is_type name id x are known good = record
       one-more (λ (k : ValueId). Good table tests types (at table k.0)) (id_of old) is_type name id
       x.good good kind other i (sym (are kind other) ∙ is);
 }
+
+-- they are the same
+pub aliases-same : (table : List Value) (tests : Tests) (types : List TypeDef) (old new : Aliases)
+    → AreGoodAliases table tests types old
+    → ((kind : Bool) (other : Text) → id_of new kind other ≡ id_of old kind other)
+    → AreGoodAliases table tests types new
+aliases-same table tests types old new x are = record {
+  known = λ kind other i is. x.known kind other i (sym (are kind other) ∙ is);
+  good = λ kind other i is. x.good kind other i (sym (are kind other) ∙ is);
+}

@@ -28,7 +28,7 @@ mod word;
 pub use code::{ALIAS_UNKNOWN, INT_RANGE, KEY_REPEATED, NAME_UNKNOWN, NESTING, PARAMETERS, SYNTAX};
 pub use env::Aliases;
 pub use keys::KeySet;
-pub use value::{ValueStop, value_in};
+pub use value::{ValueStop, define_alias, value_in};
 
 #[cfg(test)]
 mod tests;

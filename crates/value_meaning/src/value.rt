@@ -1,20 +1,20 @@
 //! The value of a whole tree.
 
-ghost use Rattle.std.specs.Prelude.{◌<◌, length, IfErr, IfOk};
+ghost use Rattle.std.specs.Prelude.{◌≡◌, ◌<◌, ℕ, Bool, List, length, IfErr, IfOk};
 ghost use Rattle.std.specs.declared.option.Option.TheVariants.{None};
 ghost use Rattle.attr_value.specs.Ids.{at};
 ghost use Rattle.constraint_solver.specs.Definitions.{AreSoundDefs};
 ghost use Rattle.constraint_solver.specs.Grown.{Extends};
 ghost use Rattle.first_fault.specs.Firsts.{IsFirst};
 ghost use Rattle.native_predicate.specs.Lists.{count, tests};
-ghost use Rattle.value_meaning.specs.AliasTable.{alias_values, AreGoodAliases};
+ghost use Rattle.value_meaning.specs.AliasTable.{alias_values, AreGoodAliases, id_of, with_alias};
 ghost use Rattle.value_meaning.specs.Faults.{IsFault, Means};
 ghost use Rattle.value_meaning.specs.Refusals.{RefusesValue};
 
 use crate::env::{Aliases, Env};
 use crate::judge::judge;
 use attr_uniquer::Uniquer;
-use attr_value::ValueId;
+use attr_value::{Text, ValueId};
 use dialect_defs::TypeDef;
 use first_fault::Fault;
 use generic_syntax::ValueCst;
@@ -69,5 +69,36 @@ pub fn value_in(
     match judged.first {
         Some(fault) => Err(ValueStop::Refused(fault)),
         None => Ok(judged.value.unwrap()),
+    }
+}
+
+/// Makes an alias of this kind and name known, whose value is that of a tree by itself, and gives
+/// the value's id; or the tree's first fault. The name has no sign. Aliases that the tree mentions
+/// are those that were known, and where there is no value they stay the same.
+pub fn define_alias(
+    alloc: Global,
+    u: &mut Uniquer,
+    types: &[TypeDef],
+    natives: &Natives,
+    cst: &ValueCst,
+    is_type: bool,
+    name: Text,
+    aliases: &mut Aliases,
+) -> Result<ValueId, ValueStop>
+    requires defs { AreSoundDefs (length u.old) (count natives.now) types.now }
+    requires aliases { AreGoodAliases u.old (tests property natives.now) types.now aliases.old }
+    ensures later { Extends u.old u.new }
+    ensures good { AreGoodAliases u.new (tests property natives.now) types.now aliases.new }
+    ensures defined { IfOk result (λ id. (kind : Bool) (other : List ℕ) →
+        id_of aliases.new kind other ≡ with_alias (id_of aliases.old) is_type name id kind other) }
+    ensures ok { IfOk result (λ id. Means u.old (tests property natives.now) types.now
+        (alias_values u.old aliases.old) cst.now (at u.new id.0)) }
+    ensures refused { IfErr result (RefusesValue (IsFault u.old (tests property natives.now)
+        types.now (alias_values u.old aliases.old) 1 cst.now)) }
+{
+    let id = value_in(alloc, u, types, natives, cst, aliases)?;
+    match aliases.define(is_type, name, id) {
+        Ok(()) => Ok(id),
+        Err(_) => Err(ValueStop::OutOfMemory),
     }
 }

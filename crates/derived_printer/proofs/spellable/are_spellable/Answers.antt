@@ -4,7 +4,7 @@ use Rattle.attr_value.specs.Heads.{OwnRule}
 use Rattle.attr_value.specs.Ids.{at, kids_at, AreKnown}
 use Rattle.attr_value.specs.Values.{Value, list_of}
 use Rattle.derived_printer.specs.Spellable.{IsNamed, NodeIsSpellable, AreSpellable}
-use Rattle.derived_printer.proofs.tests.are_spellable.Goals as goal
+use Rattle.derived_printer.proofs.spellable.are_spellable.Goals as goal
 
 -- kids that stand before a place
 kids-spellable : (vs : List Value) (ids : List ValueId) (i : ℕ)
