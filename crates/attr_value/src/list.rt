@@ -15,6 +15,9 @@ use std::hash::{Hash, Hasher};
 use std::marker::Model;
 use std::slice;
 
+/// The most room of a list whose items are moved where it is trimmed.
+const SHORT_ROOM: usize = 8;
+
 /// A list on the heap. Contracts see the list of its items, and a type may hold itself through
 /// one: `specs/formers/list/List.antt` says how.
 #[derive(Debug, Drop)]
@@ -83,11 +86,14 @@ impl<T> List<T> {
 }
 
 impl<T: Drop> List<T> {
-    /// Gives back the room that no item takes. It takes no memory.
+    /// Gives back the room that no item takes. Where that wants memory and there is none, the room
+    /// stays.
     pub fn trim(&mut self)
         ensures { self.new ≡ self.old }
     {
-        self.items.shrink_to_fit();
+        if self.items.capacity() > SHORT_ROOM || pack(&mut self.items).is_err() {
+            self.items.shrink_to_fit();
+        }
     }
 
     /// Puts an item at the end. Where memory runs out, the item is dropped.
@@ -98,6 +104,19 @@ impl<T: Drop> List<T> {
         self.items.push(item)?;
         Ok(())
     }
+}
+
+/// Moves the items to a block without spare room. The block before is given back whole, so that the
+/// next short list takes it.
+fn pack<T: Drop>(items: &mut Vec<T>) -> Result<(), AllocError>
+    ensures { items.new.items ≡ items.old.items }
+{
+    if items.len() < items.capacity() {
+        let mut packed = Vec::with_capacity(*items.allocator(), items.len())?;
+        packed.append(items)?;
+        *items = packed;
+    }
+    Ok(())
 }
 
 impl<T: Copy> List<T> {
