@@ -1,6 +1,7 @@
 -- The scan finds the longest spelling, by induction over the text. No class is looked at: that a
 -- prefix spells one is that the table, run over it, ends in a whole state.
-use Rattle.std.proofs.Common.{◌≡◌, ℕ, zero, suc, ◌+◌, ◌<◌, ◌≤◌, Bool, true, false, [], ◌∷◌, length, take, drop, refl, sym, ◌∙◌, ap, subst, inl, inr, arith, if◌then◌else◌, ◌==◌, eqb-true, lit<, get_or, drop-cons, drop_of_length-le, ◌↔◌, Some, None}
+use Rattle.std.proofs.lemmas.Bool.{ne_eqb}
+use Rattle.std.proofs.Common.{◌≡◌, ℕ, zero, suc, ◌+◌, ◌-◌, ◌<◌, ◌≤◌, Bool, true, false, [], ◌∷◌, length, take, drop, refl, sym, ◌∙◌, ap, subst, inl, inr, arith, if◌then◌else◌, ◌==◌, eqb-true, add-one, lit<, get_or, drop-cons, drop_of_length-le, ◌↔◌, Some, None}
 use Rattle.ir_lexer.specs.declared.class.Class.{Class}
 use Rattle.ir_lexer.specs.declared.class.Class.TheVariants as c
 use Rattle.ir_lexer.specs.declared.table.TheConstants.{START}
@@ -110,6 +111,59 @@ scan-end t s whole end at h = rw (drop_of_length-le t {i = at} h) refl
 pub scan-dead : (t : Text) (s whole end at : ℕ) → at < length t → step s (get_or t at 0) ≡ 0
     → scan s whole end at (drop at t) ≡ (whole, end)
 scan-dead t s whole end at h e = rw (drop-cons t at 0, e) refl
+
+-- each byte from one place to another leads from the state to itself
+abbrev pub Stays : ℕ → ℕ → ℕ → Text → Type 0
+Stays s from to t = (k : ℕ) → from ≤ k → k < to → step s (get_or t k 0) ≡ s
+
+stays-less : (s from to : ℕ) (t : Text) → Stays s from to t → Stays s (from + 1) to t
+stays-less s from to t f k h w = f k (omega arith) w
+
+-- over such bytes the longest spelling grows, where the state is whole
+pub stays-whole : (n : ℕ) (t : Text) (s from to : ℕ) → from + n ≡ to → to ≤ length t
+    → (s ≡ 0 → ⊥) → is_whole s ≡ true → Stays s from to t
+    → scan s s from from (drop from t) ≡ scan s s to to (drop to t)
+stays-whole zero t s from to e h z w f =
+    let same : from ≡ to = omega arith in ap (λ x. scan s s x x (drop x t)) same
+stays-whole (suc n) t s from to e h z w f =
+    let q : from + 1 + n ≡ to = omega arith in
+    let b : step s (get_or t from 0) ≡ s = f from (omega arith) (omega arith) in
+    let dead : (s == 0) ≡ false = ne_eqb s 0 z in
+    let next = stays-whole n t s (from + 1) to q h z w (stays-less s from to t f) in
+    rw (drop-cons t from 0 (omega arith), b, dead, w, add-one) (rw add-one at next)
+
+-- and elsewhere it stays what it is
+pub stays-part : (n : ℕ) (t : Text) (s whole end from to : ℕ) → from + n ≡ to → to ≤ length t
+    → (s ≡ 0 → ⊥) → is_whole s ≡ false → Stays s from to t
+    → scan s whole end from (drop from t) ≡ scan s whole end to (drop to t)
+stays-part zero t s whole end from to e h z w f =
+    let same : from ≡ to = omega arith in ap (λ x. scan s whole end x (drop x t)) same
+stays-part (suc n) t s whole end from to e h z w f =
+    let q : from + 1 + n ≡ to = omega arith in
+    let b : step s (get_or t from 0) ≡ s = f from (omega arith) (omega arith) in
+    let dead : (s == 0) ≡ false = ne_eqb s 0 z in
+    let next = stays-part n t s whole end (from + 1) to q h z w (stays-less s from to t f) in
+    rw (drop-cons t from 0 (omega arith), b, dead, w, add-one) (rw add-one at next)
+
+-- one byte, and then such bytes, to a whole state
+pub on-whole : (t : Text) (s s2 whole end at to : ℕ) → at < length t → (s2 ≡ 0 → ⊥)
+    → s2 ≡ step s (get_or t at 0) → is_whole s2 ≡ true → at + 1 ≤ to → to ≤ length t
+    → Stays s2 (at + 1) to t
+    → scan s2 s2 to to (drop to t) ≡ scan s whole end at (drop at t)
+on-whole t s s2 whole end at to h z e w from within f =
+    let n : at + 1 + (to - (at + 1)) ≡ to = omega arith in
+    let next = stays-whole (to - (at + 1)) t s2 (at + 1) to n within z w f in
+    sym (rw (drop-cons t at 0 h, sym e, ne_eqb s2 0 z, w, add-one) (rw add-one at next))
+
+-- or to another one
+pub on-part : (t : Text) (s s2 whole end at to : ℕ) → at < length t → (s2 ≡ 0 → ⊥)
+    → s2 ≡ step s (get_or t at 0) → is_whole s2 ≡ false → at + 1 ≤ to → to ≤ length t
+    → Stays s2 (at + 1) to t
+    → scan s2 whole end to (drop to t) ≡ scan s whole end at (drop at t)
+on-part t s s2 whole end at to h z e w from within f =
+    let n : at + 1 + (to - (at + 1)) ≡ to = omega arith in
+    let next = stays-part (to - (at + 1)) t s2 whole end (at + 1) to n within z w f in
+    sym (rw (drop-cons t at 0 h, sym e, ne_eqb s2 0 z, w, add-one) (rw add-one at next))
 
 -- at the end of a text stands the end
 pub front-end : (t : Text) → length t ≡ 0 → (c.End, 0) ≡ front t

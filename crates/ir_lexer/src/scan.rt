@@ -6,8 +6,10 @@ ghost use Rattle.std.specs.Prelude.{
   ◌≤◌,
   ◌<◌,
   ◌^◌,
+  ℕ,
   length,
   drop,
+  slice_index,
   true,
   false,
   ◌↔◌,
@@ -17,6 +19,8 @@ ghost use Rattle.ir_lexer.specs.Spelling.{Spells};
 ghost use Rattle.ir_lexer.specs.Tokens as spec;
 ghost use Rattle.ir_lexer.specs.Tokens.{layout_len};
 ghost use Rattle.ir_lexer.specs.Scan.{front};
+ghost use Rattle.ir_lexer.specs.Scan as scan;
+ghost use Rattle.ir_lexer.specs.declared.table.TheConstants.{STATES};
 
 use crate::class::Class;
 use crate::state::{class_at, is_whole, step};
@@ -72,6 +76,25 @@ pub fn layout_end(src: &[u8], from: usize) -> usize
     at
 }
 
+/// The end of the bytes behind `from` that lead from the state to itself, as those of a word do.
+///
+/// The state stays in a register there, so that no step waits for the one before it.
+fn same_state_end(text: &[u8], from: usize, state: u8) -> usize
+    requires within { from ≤ length text.now }
+    requires known { state < STATES }
+    ensures same { (k : ℕ) → from ≤ k → k < result → scan.step state (slice_index text.now k) ≡ state }
+    ensures within { (from ≤ result) × (result ≤ length text.now) }
+{
+    let mut at = from;
+    while at < text.len() {
+        if step(state, text[at]) != state {
+            return at;
+        }
+        at += 1;
+    }
+    at
+}
+
 /// The token at the front of a text that begins with no layout.
 pub fn longest(text: &[u8]) -> Found
     requires { length text.now < 2 ^ 32 }
@@ -93,7 +116,7 @@ pub fn longest(text: &[u8]) -> Found
         if state == 0 {
             break;
         }
-        at += 1;
+        at = same_state_end(text, at + 1, state);
         if is_whole(state) {
             whole = state;
             end = at;
