@@ -5,3 +5,4 @@ pub mod Rows
 pub mod Steps
 pub mod Parsing
 pub mod Above
+pub mod Dims

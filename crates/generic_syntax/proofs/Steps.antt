@@ -16,11 +16,11 @@ use Rattle.grammar.proofs.Meet.{and-true}
 use Rattle.grammar.proofs.Inside.{at-kid, tok-deep}
 use Rattle.grammar.proofs.Calls.{tok-refused, went-as}
 use Rattle.grammar.proofs.Runs.{at-tok, at-refused, at-ret, left, right}
-use Rattle.ir_lexer.specs.declared.class.Class.TheVariants.{Word}
+use Rattle.ir_lexer.specs.declared.class.Class.TheVariants.{Word, LParen}
 use Rattle.ir_lexer.specs.Source.{Source}
 use Rattle.ir_lexer.specs.Spelling.{Text}
 use Rattle.ir_lexer.specs.Tokens.{Token}
-use Rattle.generic_syntax.specs.Values.{Sort, Sem, rule, inner, one_of, type_word, type_words, list1}
+use Rattle.generic_syntax.specs.Values.{Sort, Sem, rule, inner, one_of, type_word, type_words, plain_node, type_node, list1}
 use Rattle.grammar.specs.Rules.{list}
 use Rattle.generic_syntax.specs.Begins.{Begins}
 use Rattle.generic_syntax.specs.Nested.{value_looks, no_tree, value_at, values_within}
@@ -165,6 +165,22 @@ unfolding value_at
 value-refused zero x {s = s} {why = why} z h is =
     at-kid x (tok-refused true (any (value_looks x)) no_tree s why (kid-begins x s.now ∙ h) is)
 value-refused (suc n) x z h is = absurd (omega arith)
+
+-- ---- with which tokens a type begins
+
+-- a type without parentheses is a type
+pub type-begins : (t : Token) → Begins plain_node t ≡ true → Begins type_node t ≡ true
+type-begins t h = rw h refl
+
+-- so is a function
+pub function-begins : (t : Token) → Begins plain_node t ≡ false
+    → passes (any_of LParen) t ≡ true → Begins type_node t ≡ true
+function-begins t h e = rw (h, e) refl
+
+-- and nothing else
+pub no-type-begins : (t : Token) → Begins plain_node t ≡ false
+    → passes (any_of LParen) t ≡ false → Begins type_node t ≡ false
+no-type-begins t h e = rw (h, e) refl
 
 -- ---- lists of values that stand in another
 

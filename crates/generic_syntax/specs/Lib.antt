@@ -4,3 +4,4 @@ pub mod Sorts
 pub mod Nested
 pub mod Begins
 pub mod Pieces
+pub mod Dims

@@ -5,6 +5,7 @@ ghost use Rattle.std.specs.Prelude.{◌≡◌, ℕ, [], IfOk};
 ghost use Rattle.grammar.specs.Ran.{Reads};
 ghost use Rattle.generic_syntax.specs.Nested.{values_within};
 ghost use Rattle.generic_syntax.specs.Values as spec;
+ghost use Rattle.generic_syntax.specs.Dims.{known};
 
 use crate::cst::{ItemCst, ValueNode};
 use crate::token::{
@@ -123,18 +124,33 @@ fn split_dims(alloc: Global, text: &[u8]) -> Result<List<Text>, AllocError>
     ensures { IfOk result (λ found. found ≡ spec.dims_from [] text.now) }
 {
     let mut found = List::new(alloc);
-    let mut before = Vec::new(alloc);
-    'each: for byte in text {
-        if *byte == b'x' {
-            let dim = before;
-            before = Vec::new(alloc);
-            found.push(Text::from_vec(alloc, dim)?)?;
-        } else if *byte != b'?' {
-            before.push(*byte)?;
+    let mut from = 0;
+    let mut at = 0;
+    while at < text.len() {
+        at += 1;
+        if text[at - 1] == b'x' {
+            found.push(dim(alloc, &text[from..at - 1])?)?;
+            from = at;
         }
     }
     found.trim();
     Ok(found)
+}
+
+/// One dimension, without its `x`. An unknown one is an empty text.
+fn dim(alloc: Global, spelling: &[u8]) -> Result<Text, AllocError>
+    ensures { IfOk result (λ dim. dim ≡ known spelling.now) }
+{
+    if !spelling.contains(&b'?') {
+        return Text::from_slice(alloc, spelling);
+    }
+    let mut digits = Vec::new(alloc);
+    'each: for byte in spelling {
+        if *byte != b'?' {
+            digits.push(*byte)?;
+        }
+    }
+    Text::from_vec(alloc, digits)
 }
 
 /// A key, with which the unit value begins where no `=` follows.

@@ -11,6 +11,7 @@ mod module_cst;
 mod name;
 mod parse;
 mod pieces;
+mod text;
 mod token;
 mod value;
 mod word;

@@ -1,6 +1,6 @@
 //! Single tokens of values.
 
-ghost use Rattle.std.specs.Prelude.{◌≡◌, ◌≢◌, [], ◌∷◌, codes, true};
+ghost use Rattle.std.specs.Prelude.{◌≡◌, ◌≢◌, ◌||◌, ℕ, List, [], ◌∷◌, codes, true};
 ghost use Rattle.grammar.specs.Looks.{any_of, dotted, undotted, passes, is_among};
 ghost use Rattle.grammar.specs.Looks as look;
 ghost use Rattle.grammar.specs.Ran.{Took};
@@ -9,9 +9,10 @@ ghost use Rattle.generic_syntax.specs.Begins.{Begins};
 ghost use Rattle.generic_syntax.specs.Sorts.{sort_of};
 ghost use Rattle.generic_syntax.specs.Values as spec;
 
+use crate::text::{name_text, string_text};
 use attr_value::Text;
 use grammar::{SyntaxCode, SyntaxStop, expect, is_class, is_integer_type, is_word};
-use ir_lexer::{Class, TokenSource, literal_bytes, name_bytes};
+use ir_lexer::{Class, TokenSource};
 use std::alloc::Global;
 
 /// Which values may stand at a place.
@@ -75,7 +76,7 @@ pub fn read_string<T: TokenSource>(alloc: Global, t: &mut T) -> Result<Text, Syn
     ensures { Took (passes (any_of Class.Str)) (λ t. names.literal_bytes t.text)
         (T.state t.old) result (T.state t.new) }
 {
-    let text = Text::from_vec(alloc, literal_bytes(alloc, t.text())?)?;
+    let text = string_text(alloc, t.text())?;
     expect(t, Class::Str)?;
     Ok(text)
 }
@@ -90,31 +91,40 @@ pub fn read_sign_name<T: TokenSource>(
     ensures { Took (passes (any_of kind)) (λ t. names.name_bytes t.text)
         (T.state t.old) result (T.state t.new) }
 {
-    let text = Text::from_vec(alloc, name_bytes(alloc, t.text())?)?;
+    let text = name_text(alloc, t.text())?;
     expect(t, kind)?;
     Ok(text)
+}
+
+/// Whether a word is a type, beside the names of integer types.
+fn is_type_name(word: &[u8]) -> bool
+    ensures { result ≡ is_among (codes "index" ∷ spec.type_words) word.now }
+{
+    matches!(
+        word,
+        b"index" | b"none" | b"bf16" | b"f16" | b"tf32" | b"f32" | b"f64" | b"f80" | b"f128"
+    )
 }
 
 /// Whether the present token is a word that is a type.
 pub fn is_type_word<T: TokenSource>(t: &T) -> bool
     ensures { result ≡ Begins spec.type_word (T.state t.now).now }
 {
-    is_integer_type(t)
-        || (is_word(t, b"index")
-            || (is_word(t, b"none")
-                || (is_word(t, b"bf16")
-                    || (is_word(t, b"f16")
-                        || (is_word(t, b"tf32")
-                            || (is_word(t, b"f32")
-                                || (is_word(t, b"f64")
-                                    || (is_word(t, b"f80") || is_word(t, b"f128")))))))))
+    is_class(t, Class::Word) && (is_integer_type(t) || is_type_name(t.text()))
+}
+
+/// Whether a word is an attribute.
+fn is_attr_name(word: &[u8]) -> bool
+    ensures { result ≡ is_among (codes "true" ∷ codes "false" ∷ codes "unit" ∷ []) word.now }
+{
+    matches!(word, b"true" | b"false" | b"unit")
 }
 
 /// Whether the present token is a word that is an attribute.
 pub fn is_attr_word<T: TokenSource>(t: &T) -> bool
     ensures { result ≡ Begins spec.attr_word (T.state t.now).now }
 {
-    is_word(t, b"true") || (is_word(t, b"false") || is_word(t, b"unit"))
+    is_class(t, Class::Word) && is_attr_name(t.text())
 }
 
 /// Whether the present token is a truth value.
@@ -132,17 +142,22 @@ pub fn is_dense_width<T: TokenSource>(t: &T) -> bool
         || (is_word(t, b"i8") || (is_word(t, b"i16") || (is_word(t, b"i32") || is_word(t, b"i64"))))
 }
 
+/// Whether the present token is a word with which a type begins that has others in it.
+fn begins_nest<T: TokenSource>(t: &T) -> bool
+    ensures { let is = λ (w : List ℕ). passes (look.word w) (T.state t.now).now in
+        result ≡ (is (codes "tuple") || (is (codes "complex") || (is (codes "vector")
+        || (is (codes "tensor") || is (codes "memref"))))) }
+{
+    is_word(t, b"tuple")
+        || (is_word(t, b"complex")
+            || (is_word(t, b"vector") || (is_word(t, b"tensor") || is_word(t, b"memref"))))
+}
+
 /// Whether a type without parentheses begins with the present token.
 pub fn begins_plain<T: TokenSource>(t: &T) -> bool
     ensures { result ≡ Begins spec.plain_node (T.state t.now).now }
 {
-    is_type_word(t)
-        || (is_undotted(t, Class::TypeName)
-            || (is_dotted(t, Class::TypeName)
-                || (is_word(t, b"tuple")
-                    || (is_word(t, b"complex")
-                        || (is_word(t, b"vector")
-                            || (is_word(t, b"tensor") || is_word(t, b"memref")))))))
+    is_type_word(t) || (is_class(t, Class::TypeName) || begins_nest(t))
 }
 
 /// Whether a type begins with the present token.

@@ -34,7 +34,9 @@ pub fn value<T: TokenSource>(
         (T.state t.old) result (T.state t.new) }
 {
     if room > 0 {
-        return placed(alloc, t, room - 1, sort);
+        let place = t.place();
+        let node = node(alloc, t, room - 1, sort)?;
+        return Ok(ValueCst { place, node });
     }
     if begins(t, sort) {
         return Err(too_deep(t));
@@ -42,22 +44,8 @@ pub fn value<T: TokenSource>(
     Err(refused(t))
 }
 
-/// Reads a value, where it may stand, with its place.
-#[cycle(values)]
-fn placed<T: TokenSource>(
-    alloc: Global,
-    t: &mut T,
-    room: u32,
-    sort: ValueSort,
-) -> Result<ValueCst, SyntaxStop>
-    ensures { Reads (values_within room) (spec.rule (sort_of sort))
-        (T.state t.old) result (T.state t.new) }
-{
-    let place = t.place();
-    let node = node(alloc, t, room, sort)?;
-    Ok(ValueCst { place, node })
-}
-
+/// It is called and not copied into `value`, so that what is read is moved whole.
+#[inline(never)]
 #[cycle(values)]
 fn node<T: TokenSource>(
     alloc: Global,

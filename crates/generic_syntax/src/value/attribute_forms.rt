@@ -7,11 +7,11 @@ ghost use Rattle.generic_syntax.specs.Values as spec;
 use crate::cst::{EntryCst, ValueCst, ValueNode};
 use crate::leaf::{dense, key, sign, symbol};
 use crate::token::{
-    ValueSort, begins_number, begins_type, is_attr_word, is_dotted, is_undotted, read_sign_name,
+    ValueSort, begins_number, begins_plain, is_attr_word, is_dotted, is_undotted, read_sign_name,
     read_string, read_text,
 };
 use crate::value::lists::{entry_list, values};
-use crate::value::type_forms::{arguments, typ, type_node};
+use crate::value::type_forms::{arguments, function, plain_node, typ};
 use crate::value::value;
 use attr_value::List;
 use grammar::{SyntaxStop, expect, is_class};
@@ -27,8 +27,11 @@ pub fn any_node<T: TokenSource>(
 ) -> Result<ValueNode, SyntaxStop>
     ensures { Reads (values_within room) spec.any_node (T.state t.old) result (T.state t.new) }
 {
-    if begins_type(t) {
-        return type_node(alloc, t, room);
+    if begins_plain(t) {
+        return plain_node(alloc, t, room);
+    }
+    if is_class(t, Class::LParen) {
+        return function(alloc, t, room);
     }
     attr_node(alloc, t, room)
 }

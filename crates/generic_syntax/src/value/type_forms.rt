@@ -145,7 +145,11 @@ pub fn arguments<T: TokenSource>(
 }
 
 #[cycle(values)]
-fn function<T: TokenSource>(alloc: Global, t: &mut T, room: u32) -> Result<ValueNode, SyntaxStop>
+pub fn function<T: TokenSource>(
+    alloc: Global,
+    t: &mut T,
+    room: u32,
+) -> Result<ValueNode, SyntaxStop>
     ensures { Reads (values_within room) spec.function (T.state t.old) result (T.state t.new) }
 {
     let inputs = types(alloc, t, room)?;
@@ -181,5 +185,6 @@ pub fn outs<T: TokenSource>(
     }
     let mut found = List::new(alloc);
     found.push(value(alloc, t, room, ValueSort::PlainType)?)?;
+    found.trim();
     Ok(found)
 }

@@ -6,24 +6,21 @@ use Rattle.grammar.proofs.Runs.{exit, at-tok, at-ret, both-ok, both-first, both-
 use Rattle.generic_syntax.specs.Values.{node_at}
 use Rattle.generic_syntax.proofs.Knot.{values-fit}
 use Rattle.generic_syntax.proofs.Rows.{builds-on, builds-end, builds-err, builds-memory, builds-first}
-use Rattle.generic_syntax.proofs.Steps.{memory-after, at-look, at-words, at-type-word, deeper, value-deep, value-refused, no-values, some-values}
+use Rattle.generic_syntax.proofs.Steps.{memory-after, at-look, at-words, at-type-word, deeper, value-deep, value-refused, no-values, some-values, type-begins, function-begins, no-type-begins}
 use Rattle.generic_syntax.proofs.value.+values.Goals as goal
 
+pub value-returns-in_err-node : goal.value-returns-in_err-node
+value-returns-in_err-node g t c = exit c.from_residual.ensures (deeper _ _ c.if-room-gt0.true (placed-err c.in_err-node.ensures))
+
 pub value-returns-then-room-gt0 : goal.value-returns-then-room-gt0
-value-returns-then-room-gt0 g t c = deeper _ _ c.if-room-gt0.true c.placed.ensures
+unfolding node_at
+value-returns-then-room-gt0 g t c = deeper _ _ c.if-room-gt0.true (rw c.place-place.ensures (placed-ok c.in_ok-node.ensures))
 
 pub value-returns-then-begins : goal.value-returns-then-begins
 value-returns-then-begins g t c = value-deep _ _ (omega arith) (sym c.begins.ensures ∙ c.if-begins.true) c.too_deep.ensures
 
 pub value-returns : goal.value-returns
 value-returns g t c = value-refused _ _ (omega arith) (sym c.begins.ensures ∙ c.if-begins.false) (refuses-is (g.T.TokenSource.state c.args.t.now).now _ c.refused.ensures)
-
-pub placed-returns-in_err-node : goal.placed-returns-in_err-node
-placed-returns-in_err-node g t c = exit c.from_residual.ensures (placed-err c.in_err-node.ensures)
-
-pub placed-returns : goal.placed-returns
-unfolding node_at
-placed-returns g t c = rw c.place-place.ensures (placed-ok c.in_ok-node.ensures)
 
 pub node-returns-in-AnyType : goal.node-returns-in-AnyType
 node-returns-in-AnyType g t c = rw c.in-AnyType.is c.type_node.ensures
@@ -80,11 +77,14 @@ type_forms::type_node-returns-then-begins_plain g t c = left (sym c.begins_plain
 pub type_forms::type_node-returns : goal.type_forms::type_node-returns
 type_forms::type_node-returns g t c = right (sym c.begins_plain.ensures ∙ c.if-begins_plain.false) c.function.ensures
 
-pub attribute_forms::any_node-returns-then-begins_type : goal.attribute_forms::any_node-returns-then-begins_type
-attribute_forms::any_node-returns-then-begins_type g t c = left (sym c.begins_type.ensures ∙ c.if-begins_type.true) c.type_node.ensures
+pub attribute_forms::any_node-returns-then-begins_plain : goal.attribute_forms::any_node-returns-then-begins_plain
+attribute_forms::any_node-returns-then-begins_plain g t c = left (type-begins (g.T.TokenSource.state c.args.t.now).now (sym c.begins_plain.ensures ∙ c.if-begins_plain.true)) (left (sym c.begins_plain.ensures ∙ c.if-begins_plain.true) c.plain_node.ensures)
+
+pub attribute_forms::any_node-returns-then-is_class : goal.attribute_forms::any_node-returns-then-is_class
+attribute_forms::any_node-returns-then-is_class g t c = left (function-begins (g.T.TokenSource.state c.args.t.now).now (sym c.begins_plain.ensures ∙ c.if-begins_plain.false) (sym c.is_class.ensures.passes ∙ c.if-is_class.true)) (right (sym c.begins_plain.ensures ∙ c.if-begins_plain.false) c.function.ensures)
 
 pub attribute_forms::any_node-returns : goal.attribute_forms::any_node-returns
-attribute_forms::any_node-returns g t c = right (sym c.begins_type.ensures ∙ c.if-begins_type.false) c.attr_node.ensures
+attribute_forms::any_node-returns g t c = right (no-type-begins (g.T.TokenSource.state c.args.t.now).now (sym c.begins_plain.ensures ∙ c.if-begins_plain.false) (sym c.is_class.ensures.passes ∙ c.if-is_class.false)) c.attr_node.ensures
 
 pub type_forms::plain_node-returns-in_err-word : goal.type_forms::plain_node-returns-in_err-word
 type_forms::plain_node-returns-in_err-word g t c = exit c.from_residual.ensures (left (sym c.is_type_word.ensures ∙ c.if-is_type_word.true) (made-err (at-type-word (sym c.is_type_word.ensures ∙ c.if-is_type_word.true) c.in_err-word.ensures)))
@@ -267,7 +267,7 @@ pub type_forms::outs-returns-in_err-push : goal.type_forms::outs-returns-in_err-
 type_forms::outs-returns-in_err-push g t c = exit c.from_residual-in_err-push.ensures (right (rw (sym c.is_class.ensures.passes ∙ c.if-is_class.false) refl) (made-err (memory-after c.in_ok-value.ensures)))
 
 pub type_forms::outs-returns : goal.type_forms::outs-returns
-type_forms::outs-returns g t c = rw (c.in_ok-push.ensures.ok, c.new-found.ensures) (right (rw (sym c.is_class.ensures.passes ∙ c.if-is_class.false) refl) (made-ok c.in_ok-value.ensures))
+type_forms::outs-returns g t c = rw (c.trim.ensures, c.in_ok-push.ensures.ok, c.new-found.ensures) (right (rw (sym c.is_class.ensures.passes ∙ c.if-is_class.false) refl) (made-ok c.in_ok-value.ensures))
 
 pub lists::entry_list-returns-then-not-begins_entry : goal.lists::entry_list-returns-then-not-begins_entry
 lists::entry_list-returns-then-not-begins_entry g t c = rw c.new.ensures (right (rw (sym c.begins_entry.ensures ∙ c.if-not-begins_entry.true) refl) at-ret)

@@ -10,9 +10,6 @@ use Rattle.generic_syntax.proofs.value.+values.Given as goal
 abbrev pub decreases-value : goal.decreases-value
 decreases-value g l = 32 * l.room + 0
 
-abbrev pub decreases-placed : goal.decreases-placed
-decreases-placed g l = 32 * l.room + 31
-
 abbrev pub decreases-node : goal.decreases-node
 decreases-node g l = 32 * l.room + 30
 
