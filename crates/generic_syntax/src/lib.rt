@@ -27,6 +27,7 @@ pub use parse::{TOO_DEEP, parse_type, parse_value};
 pub use pieces::{
     ROOM, read_attribute, read_dictionary, read_item, read_results, read_type, read_types,
 };
+pub use token::read_string;
 pub use word::read_integer_type;
 
 #[cfg(test)]

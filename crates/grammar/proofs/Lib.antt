@@ -25,5 +25,6 @@ pub mod Known
 pub mod Knots
 pub mod FlatReads
 pub mod Wholes
+pub mod Numbers
 pub mod Widths
 pub mod Shallow

@@ -8,12 +8,12 @@ use denote.Enum.Bare.{same_true, true_same}
 use Rattle.std.proofs.lemmas.List.{take-append-drop}
 use Rattle.std.proofs.lemmas.Slice.Eq.{bytes_eq-Decides}
 use Rattle.ir_lexer.specs.declared.class.Class.{Class}
-use Rattle.ir_lexer.specs.declared.class.Class.TheVariants.{Word, End}
+use Rattle.ir_lexer.specs.declared.class.Class.TheVariants.{Word, Integer, End}
 use Rattle.ir_lexer.specs.contracts.class.Class.{the_type}
 use Rattle.ir_lexer.specs.Classes.{same_class}
 use Rattle.ir_lexer.specs.Spelling.{Text}
 use Rattle.ir_lexer.specs.Tokens.{Token}
-use Rattle.grammar.specs.Looks.{has_dot, all_digits, is_width, is_width_after, is_integer_word, is_among, Look, any_of, word, other_word, int_word, dotted, undotted, class_of, text_fits, passes, texts_meet, looks_meet, any, meets_one, any_meet, apart}
+use Rattle.grammar.specs.Looks.{has_dot, all_digits, is_width, is_width_after, is_integer_word, is_among, Look, any_of, word, other_word, int_word, dotted, undotted, number_to, class_of, text_fits, passes, texts_meet, looks_meet, any, meets_one, any_meet, apart}
 
 -- both sides of a true `&&` are true
 pub and-true : (a b : Bool) → (a && b) ≡ true → (a ≡ true) × (b ≡ true)
@@ -243,6 +243,7 @@ a-token (other_word ws) = record { class = Word; text = another ws; place = 0 }
 a-token int_word = record { class = Word; text = codes "i1"; place = 0 }
 a-token (dotted c) = record { class = c; text = 46 ∷ []; place = 0 }
 a-token (undotted c) = record { class = c; text = []; place = 0 }
+a-token (number_to n) = record { class = Integer; text = []; place = 0 }
 
 -- that token passes the look
 pub passes-some : (l : Look) → passes l (a-token l) ≡ true
@@ -253,3 +254,4 @@ passes-some (other_word ws) = rw (same-self Word) (another-is-none ws)
 passes-some int_word = rw (same-self Word) refl
 passes-some (dotted c) = rw (same-self c) refl
 passes-some (undotted c) = rw (same-self c) refl
+passes-some (number_to n) = rw (same-self Integer) (grind arith)

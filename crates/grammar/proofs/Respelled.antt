@@ -16,7 +16,7 @@ use Rattle.ir_lexer.proofs.Machine.{run, accepted, spelled, same-class-is}
 use Rattle.grammar.specs.Exact.{HasMore, Blocked}
 use Rattle.grammar.specs.Front.{Lists, Viable, Some_of, Refused, AreSpelled}
 use Rattle.grammar.specs.Grammar.{Tokens, EachPiece, G, ret, tok, both, alt, star, chain, made, placed, kid, place_of, Links, Derives}
-use Rattle.grammar.specs.Looks.{Look, any_of, word, other_word, int_word, dotted, undotted, class_of, text_fits, passes}
+use Rattle.grammar.specs.Looks.{Look, any_of, word, other_word, int_word, dotted, undotted, number_to, class_of, text_fits, passes}
 use Rattle.grammar.proofs.Meet.{and-true, or-true, true-or, or-first, same-self, longer-is-none, total}
 
 -- ---- texts that spell a class
@@ -171,6 +171,7 @@ met_text (other_word ws) = letters (suc (total ws))
 met_text int_word = codes "i1"
 met_text (dotted class) = sample class ++ codes ".a"
 met_text (undotted class) = sample class
+met_text (number_to n) = sample c.Integer
 
 -- a token of that text and class
 abbrev met_token : Look → Token
@@ -205,6 +206,8 @@ met (dotted class) e = let p = and-true (keeps (met_token (dotted class))) _ e i
     (p.0, rw (same-self class) p.1)
 met (undotted class) e = let p = and-true (keeps (met_token (undotted class))) _ e in
     (p.0, rw (same-self class) p.1)
+met (number_to n) e = let p = and-true (keeps (met_token (number_to n))) _ e in
+    (p.0, rw (same-self c.Integer) p.1)
 
 -- ---- one token for another
 

@@ -2,15 +2,11 @@
 --
 -- More digits make no smaller number, so the reader may stop at the first digit that is too much.
 use Rattle.attr_value.specs.declared.kind.TheConstants.{WIDTH_LIMIT}
-use Rattle.std.proofs.Common.{◌≡◌, ℕ, suc, ◌+◌, ◌-◌, ◌*◌, ◌<◌, ◌≤◌, Bool, true, false, ◌&&◌, [], ◌∷◌, length, drop, slice_index_or, nat_le, refl, arith}
+use Rattle.std.proofs.Common.{◌≡◌, ℕ, suc, ◌+◌, ◌-◌, ◌*◌, ◌<◌, Bool, true, false, ◌&&◌, ◌∷◌, length, drop, slice_index_or, nat_le, refl, arith}
 use Rattle.std.proofs.Math.Seq.{drop-cons}
 use Rattle.ir_lexer.specs.Spelling.{Text}
 use Rattle.grammar.specs.Looks.{all_digits, decimal, spells_width}
-
--- more digits make no smaller number
-decimal-grows : (n : ℕ) (t : Text) → n ≤ decimal n t
-decimal-grows n [] = omega arith
-decimal-grows n (b ∷ t) = let later = decimal-grows (n * 10 + (b - 48)) t in omega arith
+use Rattle.grammar.proofs.Numbers.{decimal-grows}
 
 never : (a b : Bool) → b ≡ false → (a && b) ≡ false
 never true b e = e

@@ -3,16 +3,18 @@
 -- A look is plain data, so that questions on grammars compute: whether a token passes a look, and
 -- whether some token passes two.
 --
+--   number_in t      the number that an `Integer` spells
 --   Look             one demand on a token
 --   passes l t       the token t meets the demand l
 --   looks_meet p q   some token may pass both
 --   any ls t         the token passes one of these
 --   apart ps qs      no token passes one of the first and one of the second
-use Rattle.std.specs.Prelude.{ℕ, ◌+◌, ◌-◌, ◌*◌, ◌==◌, Bool, true, false, not, ◌&&◌, ◌||◌, List, [], ◌∷◌, bytes_eq, nat_le, take, drop, length, codes}
+use Rattle.std.specs.Prelude.{ℕ, ◌+◌, ◌-◌, ◌*◌, ◌==◌, Bool, true, false, not, ◌&&◌, ◌||◌, List, [], ◌∷◌, bytes_eq, nat_le, take, drop, length, codes, if◌then◌else◌}
 use Rattle.attr_value.specs.declared.kind.TheConstants.{WIDTH_LIMIT}
 use Rattle.ir_lexer.specs.declared.class.Class.{Class}
-use Rattle.ir_lexer.specs.declared.class.Class.TheVariants.{Word}
+use Rattle.ir_lexer.specs.declared.class.Class.TheVariants.{Word, Integer}
 use Rattle.ir_lexer.specs.Classes.{same_class}
+use Rattle.ir_lexer.specs.Names.{hexadecimal_value}
 use Rattle.ir_lexer.specs.Spelling.{Text}
 use Rattle.ir_lexer.specs.Tokens.{Token}
 
@@ -30,6 +32,16 @@ all_digits (b ∷ t) = (nat_le 48 b && nat_le b 57) && all_digits t
 abbrev pub decimal : ℕ → Text → ℕ
 decimal n [] = n
 decimal n (b ∷ t) = decimal (n * 10 + (b - 48)) t
+
+-- the number that hexadecimal digits spell, behind a number that was spelled before
+abbrev pub hexadecimal : ℕ → Text → ℕ
+hexadecimal n [] = n
+hexadecimal n (b ∷ t) = hexadecimal (n * 16 + hexadecimal_value b) t
+
+-- the number that an `Integer` spells: hexadecimal where an `x` stands second, else decimal
+abbrev pub number_in : Text → ℕ
+number_in (a ∷ b ∷ t) = if b == 120 then hexadecimal 0 t else decimal 0 (a ∷ b ∷ t)
+number_in t = decimal 0 t
 
 -- digits that spell, behind a number, one that is no greater than the greatest width
 abbrev pub spells_width : ℕ → Text → Bool
@@ -68,6 +80,8 @@ pub data Look : Type 0 where
   -- a token of this class in which a dot stands, or none
   dotted : Class → Look
   undotted : Class → Look
+  -- an `Integer` whose number is no greater than this
+  number_to : ℕ → Look
 
 -- the class of the tokens that pass a look
 abbrev pub class_of : Look → Class
@@ -77,6 +91,7 @@ class_of (other_word ws) = Word
 class_of int_word = Word
 class_of (dotted c) = c
 class_of (undotted c) = c
+class_of (number_to n) = Integer
 
 -- what a look asks of the text
 abbrev pub text_fits : Look → Text → Bool
@@ -86,6 +101,7 @@ text_fits (other_word ws) t = not (is_among ws t)
 text_fits int_word t = is_integer_word t
 text_fits (dotted c) t = has_dot t
 text_fits (undotted c) t = not (has_dot t)
+text_fits (number_to n) t = nat_le (number_in t) n
 
 -- the token meets the demand
 abbrev pub passes : Look → Token → Bool

@@ -7,11 +7,14 @@
 //! the readers of whole grammars stand in the crates above.
 #![tactic(auto)]
 
+mod number;
 mod step;
 mod stop;
 mod word;
 
-pub use step::{expect, expect_end, expect_word, is_class, is_integer_type, is_word, refused};
+pub use step::{
+    expect, expect_end, expect_word, is_class, is_integer_type, is_word, read_number, refused,
+};
 pub use stop::{SyntaxCode, SyntaxStop};
 
 #[cfg(test)]

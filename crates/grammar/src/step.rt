@@ -3,13 +3,14 @@
 //! Each reader of a grammar is made of these steps and of readers of smaller grammars. What a step
 //! owes is stated once, in `specs/Ran.antt`.
 
-ghost use Rattle.std.specs.Prelude.{◌≡◌, ◌≢◌, ◌↔◌, IsTrue, true, false, Err};
+ghost use Rattle.std.specs.Prelude.{◌≡◌, ◌≢◌, ◌↔◌, ◌^◌, ◌-◌, IsTrue, true, false, Err};
 ghost use Rattle.ir_lexer.specs.Classes as lexer;
 ghost use Rattle.ir_lexer.specs.Source.{IsInOrder};
 ghost use Rattle.grammar.specs.Looks.{any_of, passes};
 ghost use Rattle.grammar.specs.Looks as look;
 ghost use Rattle.grammar.specs.Ran.{Took, IsAtEnd, RefusesBy, RefusesToken};
 
+use crate::number::number_in;
 use crate::stop::{SyntaxCode, SyntaxStop};
 use crate::word::is_integer_word;
 use ir_lexer::{Class, TokenSource};
@@ -100,4 +101,21 @@ pub fn expect_word<T: TokenSource>(t: &mut T, word: &[u8]) -> Result<(), SyntaxS
     }
     t.advance()?;
     Ok(())
+}
+
+/// Takes a number of 32 bits. Any other token is refused.
+pub fn read_number<T: TokenSource>(t: &mut T) -> Result<u32, SyntaxStop>
+    ensures { Took (passes (look.number_to (2 ^ 32 - 1))) (λ t. look.number_in t.text)
+        (T.state t.old) result (T.state t.new) }
+{
+    if !is_class(t, Class::Integer) {
+        return Err(refused(t));
+    }
+    match number_in(t.text()) {
+        None => Err(refused(t)),
+        Some(number) => {
+            t.advance()?;
+            Ok(number)
+        }
+    }
 }

@@ -38,6 +38,32 @@ fn an_integer_type_has_a_width_from_1_to_16777215(rt: HostRuntime) {
 }
 
 #[test]
+fn a_number_has_32_bits(rt: HostRuntime) {
+    let refused = Err(SyntaxStop::At {
+        place: 1,
+        code: SyntaxCode::Syntax,
+    });
+    for (text, want) in [
+        (" 0", Ok(0)),
+        (" 007", Ok(7)),
+        (" 4294967295", Ok(4294967295)),
+        (" 4294967296", refused),
+        (" 0x0", Ok(0)),
+        (" 0x00fFA", Ok(4090)),
+        (" 0xffffffff", Ok(4294967295)),
+        (" 0x100000000", refused),
+        (" 99999999999999999999999999999999999999999", refused),
+        (" -1", refused),
+        (" word", refused),
+        (" ", refused),
+    ] {
+        assert!(rt; text.len() <= TEXT_LIMIT);
+        let mut tokens = SliceTokens::new(text.as_bytes());
+        assert_eq!(rt; read_number(&mut tokens), want, "{text}");
+    }
+}
+
+#[test]
 fn another_token_is_refused_by_its_class(rt: HostRuntime) {
     for (text, place, code) in [
         (" )", 1, SyntaxCode::Syntax),

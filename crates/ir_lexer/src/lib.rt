@@ -17,7 +17,7 @@ mod table;
 
 pub use class::Class;
 pub use lexer::{Lexer, TEXT_LIMIT, Token};
-pub use names::{literal_bytes, name_bytes};
+pub use names::{hexadecimal_value, literal_bytes, name_bytes};
 pub use place::{LineCol, line_col};
 pub use scan::class_of;
 pub use slice::SliceTokens;

@@ -98,8 +98,8 @@ fn short_escape(byte: u8) -> u8
     }
 }
 
-/// The number of a digit, and 0 of any other byte.
-fn hexadecimal_value(digit: u8) -> u8
+/// The number of a hexadecimal digit, in either case, and 0 of any other byte.
+pub fn hexadecimal_value(digit: u8) -> u8
     ensures value { result ≡ spec.hexadecimal_value digit }
     ensures within { result < 16 }
 {
