@@ -2,8 +2,6 @@
 use Rattle.ir_lexer.specs.Names.{name_bytes}
 use Rattle.ir_lexer.specs.Tokens.{Token}
 use Rattle.generic_syntax.specs.declared.cst.NameCst.{NameCst}
-use Rattle.generic_syntax.specs.declared.cst.ValueCst.{ValueCst, roll-ValueCst}
-use Rattle.generic_syntax.specs.declared.cst.ValueNode.TheVariants as node
 
 -- a name, without its sign
 unfoldable pub name_of : Token → NameCst
@@ -12,7 +10,3 @@ name_of t = record { place = t.place; name = name_bytes t.text }
 -- a word that is a name
 unfoldable pub word_name : Token → NameCst
 word_name t = record { place = t.place; name = t.text }
-
--- a type that is one word
-unfoldable pub word_type : Token → ValueCst
-word_type t = roll-ValueCst (record { place = t.place; node = node.Word t.text })

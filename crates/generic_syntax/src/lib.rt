@@ -14,7 +14,6 @@ mod pieces;
 mod text;
 mod token;
 mod value;
-mod word;
 
 pub use cst::{EntryCst, ItemCst, NameCst, ValueCst, ValueNode};
 pub use grammar::{SyntaxCode, SyntaxStop};
@@ -28,7 +27,6 @@ pub use pieces::{
     ROOM, read_attribute, read_dictionary, read_item, read_results, read_type, read_types,
 };
 pub use token::read_string;
-pub use word::read_integer_type;
 
 #[cfg(test)]
 mod tests;

@@ -45,24 +45,17 @@ fn a_word_that_is_a_name_has_its_place_and_its_bytes(rt: HostRuntime) -> Result<
 }
 
 #[test]
-fn an_integer_type_is_its_word(rt: HostRuntime) -> Result<(), SyntaxStop> {
-    let mut tokens = SliceTokens::new(b" i32 ui8 index");
-    for (place, word) in [(1, "i32"), (5, "ui8")] {
-        let value = read_integer_type(rt.alloc(), &mut tokens)?;
-        assert_eq!(rt; value.place, place);
-        match &value.node {
-            ValueNode::Word(text) => assert_eq!(rt; text.bytes(), word.as_bytes()),
-            _ => assert!(rt; false, "no word at {place}"),
-        }
+fn a_string_is_its_bytes(rt: HostRuntime) -> Result<(), SyntaxStop> {
+    let mut tokens = SliceTokens::new(b" \"a\\t\\42\" \"\" a");
+    for bytes in ["a\tB", ""] {
+        let text = read_string(rt.alloc(), &mut tokens)?;
+        assert_eq!(rt; text.bytes(), bytes.as_bytes());
     }
     let stop = SyntaxStop::At {
-        place: 9,
+        place: 13,
         code: SyntaxCode::Syntax,
     };
-    assert_eq!(rt;
-        read_integer_type(rt.alloc(), &mut tokens).err(),
-        Some(stop)
-    );
+    assert_eq!(rt; read_string(rt.alloc(), &mut tokens).err(), Some(stop));
     Ok(())
 }
 

@@ -1,7 +1,7 @@
 -- A definition file ends at the end, is one file, and isn't refused; any other is refused once.
 --
 -- Each is the theorem on grammars that one token decides, for the grammar of definition files.
-use Rattle.std.proofs.Common.{◌≡◌, ℕ, [], ◌∷◌, ◌++◌, sym, ◌∙◌, ap, subst, append-nil}
+use Rattle.std.proofs.Common.{◌≡◌, ◌==◌, ℕ, [], ◌∷◌, ◌++◌, sym, ◌∙◌, ap, subst, append-nil}
 use Rattle.ir_lexer.specs.declared.class.Class.TheVariants.{End}
 use Rattle.ir_lexer.specs.Tokens.{Token}
 use Rattle.grammar.specs.declared.stop.SyntaxCode.{SyntaxCode}
@@ -11,9 +11,11 @@ use Rattle.grammar.specs.Front.{Shallow, Some_of, Front}
 use Rattle.grammar.specs.Grammar.{Tokens}
 use Rattle.grammar.specs.Looks.{any_of}
 use Rattle.grammar.specs.Rules.{whole}
-use Rattle.grammar.proofs.FlatReads.{flat-seen, flat-one-tree}
 use Rattle.grammar.proofs.Fronts.{front-no-refusal, one-refusal}
+use Rattle.grammar.proofs.Known.{trees-of, known-seen, grammar-one-tree}
 use Rattle.grammar.proofs.Meet.{passes-class}
+use Rattle.generic_syntax.specs.declared.pieces.TheConstants.{ROOM}
+use Rattle.generic_syntax.proofs.Above.{pieces-known}
 use Rattle.irdl_ops.specs.declared.raw.RawDefs.{RawDefs}
 use Rattle.irdl_ops.specs.Definitions.{file, DefText, TooDeepDef, IsFile}
 use Rattle.irdl_ops.proofs.OneToken.{file-checked}
@@ -28,12 +30,13 @@ file-ends ts d (front, back, b, c, is, f, (t, is_last, passed, e2), e) =
 -- what is too deep has more
 def-seen : (p : Tokens) → TooDeepDef p → HasMore (Some_of DefText) p
 unfolding DefText TooDeepDef
-def-seen p x = flat-seen (whole file) file-checked p x
+def-seen p x = known-seen (pieces-known ROOM) (ROOM == 0) (whole file) file-checked p x
 
 -- tokens spell one file
 pub one-file : (ts : Tokens) (a b : RawDefs) → DefText ts a → DefText ts b → a ≡ b
 unfolding DefText
-one-file ts a b x y = flat-one-tree (whole file) file-checked ts a b x y
+one-file ts a b x y =
+    grammar-one-tree (trees-of (pieces-known ROOM)) (whole file) file-checked ts a b x y
 
 -- a whole file is the front of its tokens
 pub file-front : (ts : Tokens) (d : RawDefs) → IsFile ts d → Front DefText TooDeepDef ts d []

@@ -1,3 +1,4 @@
 pub mod OneToken
+pub mod Fits
 pub mod Files
 pub mod Entries

@@ -4,12 +4,12 @@ use Rattle.ir_lexer.specs.Scan.{step, is_whole, class_at}
 use Rattle.ir_lexer.specs.Classes.{same_class}
 use Rattle.grammar.specs.OneToken.{check}
 use Rattle.grammar.specs.Rules.{whole}
-use Rattle.grammar.proofs.FlatReads.{no_looks}
 use Rattle.grammar.proofs.Respelled.{all_met}
+use Rattle.generic_syntax.specs.Pieces.{piece_looks, piece_more_looks}
 use Rattle.irdl_ops.specs.Definitions.{file}
 
 -- one token decides at each place of a definition file
-pub file-checked : check no_looks no_looks (whole file) ≡ true
+pub file-checked : check piece_looks piece_more_looks (whole file) ≡ true
 unfolding same_class
 file-checked = refl
 

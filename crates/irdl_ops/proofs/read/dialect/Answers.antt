@@ -2,8 +2,8 @@ use Rattle.grammar.proofs.Runs.{exit, at-tok, both-ok, both-first, both-second}
 use Rattle.irdl_ops.proofs.read.dialect.Goals as goal
 
 pub returns-in_err-expect_word : goal.returns-in_err-expect_word
-returns-in_err-expect_word g c =
-    exit c.from_residual.ensures (both-first (at-tok c.in_err-expect_word.ensures.took))
+returns-in_err-expect_word g c = exit c.from_residual.ensures
+    (both-first (at-tok c.in_err-expect_word.ensures.took))
 
 pub returns-in_err-name : goal.returns-in_err-name
 returns-in_err-name g c = exit c.from_residual-in_err-name.ensures

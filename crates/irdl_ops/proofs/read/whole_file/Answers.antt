@@ -2,12 +2,11 @@ use Rattle.grammar.proofs.Wholes.{whole-ok, whole-at, whole-err, whole-exit}
 use Rattle.irdl_ops.proofs.read.whole_file.Goals as goal
 
 pub returns-in_err-defs-clause-whole : goal.returns-in_err-defs-clause-whole
-returns-in_err-defs-clause-whole g c =
-    whole-exit c.from_residual.ensures (whole-err c.in_err-defs.ensures)
+returns-in_err-defs-clause-whole g c = whole-exit c.from_residual.ensures
+    (whole-err c.in_err-defs.ensures)
 
 pub returns-in_err-expect_end-clause-whole : goal.returns-in_err-expect_end-clause-whole
-returns-in_err-expect_end-clause-whole g c =
-    whole-exit c.from_residual-in_err-expect_end.ensures
+returns-in_err-expect_end-clause-whole g c = whole-exit c.from_residual-in_err-expect_end.ensures
     (whole-at c.in_ok-defs.ensures c.in_err-expect_end.ensures)
 
 pub returns-clause-whole : goal.returns-clause-whole

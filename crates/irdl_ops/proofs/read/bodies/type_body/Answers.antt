@@ -1,0 +1,28 @@
+use Rattle.std.proofs.Common.{refl, sym, ◌∙◌}
+use Rattle.grammar.proofs.Runs.{exit, at-tok, at-ret, both-ok, both-first, both-second, left, right}
+use Rattle.irdl_ops.proofs.read.bodies.type_body.Goals as goal
+
+pub returns-then-not-is_class : goal.returns-then-not-is_class
+returns-then-not-is_class g c = rw c.new.ensures
+    (right (rw (sym c.is_class.ensures.passes ∙ c.if-not-is_class.true) refl) at-ret)
+
+pub returns-in_err-expect : goal.returns-in_err-expect
+returns-in_err-expect g c = exit c.from_residual.ensures
+    (left (rw (sym c.is_class.ensures.passes ∙ c.if-not-is_class.false) refl)
+    (both-first (at-tok c.in_err-expect.ensures.took)))
+
+pub returns-in_err-statements : goal.returns-in_err-statements
+returns-in_err-statements g c = exit c.from_residual-in_err-statements.ensures
+    (left (rw (sym c.is_class.ensures.passes ∙ c.if-not-is_class.false) refl)
+    (both-second (at-tok c.in_ok-expect.ensures.took) (both-first c.in_err-statements.ensures)))
+
+pub returns-in_err-expect-2 : goal.returns-in_err-expect-2
+returns-in_err-expect-2 g c = exit c.from_residual-in_err-expect-2.ensures
+    (left (rw (sym c.is_class.ensures.passes ∙ c.if-not-is_class.false) refl)
+    (both-second (at-tok c.in_ok-expect.ensures.took)
+    (both-second c.in_ok-statements.ensures (at-tok c.in_err-expect-2.ensures.took))))
+
+pub returns : goal.returns
+returns g c = left (rw (sym c.is_class.ensures.passes ∙ c.if-not-is_class.false) refl)
+    (both-ok (at-tok c.in_ok-expect.ensures.took)
+    (both-ok c.in_ok-statements.ensures (at-tok c.in_ok-expect-2.ensures.took)))

@@ -1,0 +1,31 @@
+use Rattle.std.proofs.Common.{refl, sym, ◌∙◌}
+use Rattle.grammar.proofs.Runs.{exit, at-tok, at-ret, both-ok, both-first, both-second, left, right, made-ok, made-err}
+use Rattle.irdl_ops.proofs.read.statements.region_args.Goals as goal
+
+pub returns-then-not-is_class : goal.returns-then-not-is_class
+returns-then-not-is_class g c = right
+    (rw (sym c.is_class.ensures.passes ∙ c.if-not-is_class.true) refl) at-ret
+
+pub returns-in_err-expect : goal.returns-in_err-expect
+returns-in_err-expect g c = exit c.from_residual.ensures
+    (left (rw (sym c.is_class.ensures.passes ∙ c.if-not-is_class.false) refl)
+    (made-err (both-first (at-tok c.in_err-expect.ensures.took))))
+
+pub returns-in_err-args : goal.returns-in_err-args
+returns-in_err-args g c = exit c.from_residual-in_err-args.ensures
+    (left (rw (sym c.is_class.ensures.passes ∙ c.if-not-is_class.false) refl)
+    (made-err
+    (both-second (at-tok c.in_ok-expect.ensures.took) (both-first c.in_err-args.ensures))))
+
+pub returns-in_err-expect-2 : goal.returns-in_err-expect-2
+returns-in_err-expect-2 g c = exit c.from_residual-in_err-expect-2.ensures
+    (left (rw (sym c.is_class.ensures.passes ∙ c.if-not-is_class.false) refl)
+    (made-err
+    (both-second (at-tok c.in_ok-expect.ensures.took)
+    (both-second c.in_ok-args.ensures (at-tok c.in_err-expect-2.ensures.took)))))
+
+pub returns : goal.returns
+returns g c = left (rw (sym c.is_class.ensures.passes ∙ c.if-not-is_class.false) refl)
+    (made-ok
+    (both-ok (at-tok c.in_ok-expect.ensures.took)
+    (both-ok c.in_ok-args.ensures (at-tok c.in_ok-expect-2.ensures.took))))
