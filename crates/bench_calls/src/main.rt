@@ -1,4 +1,5 @@
-//! Does one kind of work many times, so that it can be timed, and prints how much came of it.
+//! Does one kind of work many times, so that it can be timed, and prints how much came of it. Before
+//! that, `values` tells the time of the reading alone.
 //!
 //! usage: bench_calls (intern | solve | choices | lex | layout | values | store | names) COUNT
 #![tactic(auto)]
@@ -27,7 +28,7 @@ fn main(rt: HostRuntime) -> Result<()> {
         "choices" => solve::walk_choices(rt.alloc(), count)?,
         "lex" => layout::lex_operations(rt.alloc(), count)?,
         "layout" => layout::lay_operations(rt.alloc(), count)?,
-        "values" => values::read_values(rt.alloc(), count)?,
+        "values" => values::read_values(rt, count)?,
         "store" => store::verify_module(rt.alloc(), count)?,
         "names" => names::note_names(rt.alloc(), count)?,
         _ => bail!("no such work"),

@@ -1,16 +1,16 @@
 //! Texts of values, read into trees.
 
-ghost use Rattle.std.specs.Prelude.{◌≤◌, length};
-
-use generic_syntax::{ValueNode, parse_value};
+use anyhow::Result;
+use generic_syntax::{ValueCst, ValueNode, parse_value};
 use ir_lexer::SliceTokens;
 use std::alloc::{AllocError, Global};
+use std::time::Instant;
 
 /// The most bytes of a text.
 const TEXT_LIMIT: usize = 16_777_216;
 
 /// An array of so many groups of attributes of several kinds.
-fn attributes(alloc: Global, count: u32) -> Result<Vec<u8>, AllocError> {
+pub(crate) fn attributes(alloc: Global, count: u32) -> Result<Vec<u8>, AllocError> {
     let mut text = Vec::new(alloc);
     text.push(b'[')?;
     for n in 0..count {
@@ -28,26 +28,35 @@ fn attributes(alloc: Global, count: u32) -> Result<Vec<u8>, AllocError> {
     Ok(text)
 }
 
-/// How many values an array has that stands at the front of a text, and 0 where none does.
-fn count_values(alloc: Global, src: &[u8]) -> usize
-    requires { length src.now ≤ TEXT_LIMIT }
-{
+/// The tree of the value that stands at the front of a text, if one does.
+pub(crate) fn read_tree(alloc: Global, src: &[u8]) -> Option<ValueCst> {
+    if src.len() > TEXT_LIMIT {
+        return None;
+    }
     let mut tokens = SliceTokens::new(src);
-    let Ok(tree) = parse_value(alloc, &mut tokens, 1) else {
-        return 0;
-    };
-    match &tree.node {
-        ValueNode::Array(values) => values.len(),
+    parse_value(alloc, &mut tokens, 1).ok()
+}
+
+/// How many values an array has, and 0 where there is none.
+fn count_values(tree: &Option<ValueCst>) -> usize {
+    match tree {
+        Some(
+            ValueCst {
+                node: ValueNode::Array(values),
+                ..
+            },
+        ) => values.len(),
         _ => 0,
     }
 }
 
-/// The values of so many groups of attributes, read.
-pub(crate) fn read_values(alloc: Global, count: u32) -> Result<usize, AllocError> {
-    let text = attributes(alloc, count)?;
-    let src = text.as_slice();
-    if src.len() > TEXT_LIMIT {
-        return Ok(0);
-    }
-    Ok(count_values(alloc, src))
+/// The values of so many groups of attributes, read. The text is made before the clock starts, and
+/// the tree is dropped behind it; a line tells the time between.
+pub(crate) fn read_values(rt: HostRuntime, count: u32) -> Result<usize> {
+    let text = attributes(rt.alloc(), count)?;
+    let start = Instant::now(&rt)?;
+    let tree = read_tree(rt.alloc(), text.as_slice());
+    let took = Instant::now(&rt)?.duration_since(start).as_micros();
+    println!(rt; "{took} microseconds of reading")?;
+    Ok(count_values(&tree))
 }
