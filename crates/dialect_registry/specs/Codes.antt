@@ -4,11 +4,12 @@
 --   code_name code       the name of a rule, as reports write it
 --   IsRule number        a rule has this number
 --   refusal place code   the refusal at this place, by this rule
+--   Breaks B place code  the rule is broken at this place, where B holds: the set of this one fault
 use Rattle.std.specs.Prelude.{◌≡◌, ℕ, codes}
 use Rattle.ir_lexer.specs.Spelling.{Text}
 use Rattle.first_fault.specs.declared.fault.Fault.{Fault}
 use Rattle.dialect_registry.specs.declared.code.DefCode.{DefCode}
-use Rattle.dialect_registry.specs.declared.code.DefCode.TheVariants.{Syntax, Nesting, NameRepeated, RefUnknown}
+use Rattle.dialect_registry.specs.declared.code.DefCode.TheVariants.{Syntax, Nesting, NameRepeated, RefUnknown, ParamCount, PredicateUnknown, ChoiceLimit, BaseUnknown, StatementRepeated, ReservedName, VarLimit}
 
 -- the number of a rule, as reports write it
 abbrev pub code_number : DefCode → ℕ
@@ -16,6 +17,13 @@ code_number Syntax = 1
 code_number Nesting = 2
 code_number NameRepeated = 3
 code_number RefUnknown = 4
+code_number ParamCount = 5
+code_number PredicateUnknown = 6
+code_number ChoiceLimit = 7
+code_number BaseUnknown = 16
+code_number StatementRepeated = 17
+code_number ReservedName = 18
+code_number VarLimit = 19
 
 -- the name of a rule, as reports write it
 abbrev pub code_name : DefCode → Text
@@ -23,6 +31,13 @@ code_name Syntax = codes "Syntax"
 code_name Nesting = codes "Nesting"
 code_name NameRepeated = codes "NameRepeated"
 code_name RefUnknown = codes "RefUnknown"
+code_name ParamCount = codes "ParamCount"
+code_name PredicateUnknown = codes "PredicateUnknown"
+code_name ChoiceLimit = codes "ChoiceLimit"
+code_name BaseUnknown = codes "BaseUnknown"
+code_name StatementRepeated = codes "StatementRepeated"
+code_name ReservedName = codes "ReservedName"
+code_name VarLimit = codes "VarLimit"
 
 -- a rule has this number
 abbrev pub IsRule : ℕ → Type 0
@@ -31,3 +46,7 @@ IsRule number = (code : DefCode) × (number ≡ code_number code)
 -- the refusal at this place, by this rule
 abbrev pub refusal : ℕ → DefCode → Fault
 refusal place code = record { place = place; code = code_number code }
+
+-- the rule is broken at this place, where B holds
+abbrev pub Breaks : Type 0 → ℕ → DefCode → Fault → Type 0
+Breaks B place code f = B × (f ≡ refusal place code)

@@ -1,3 +1,9 @@
 pub mod Codes
+pub mod Parts
+pub mod Shapes
+pub mod Targets
+pub mod References
 pub mod NameFaults
+pub mod Limits
+pub mod DefFaults
 pub mod Scopes

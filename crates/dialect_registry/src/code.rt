@@ -1,6 +1,6 @@
-//! The rules of definition files, and where they are broken.
+//! The rules of definition files.
 
-ghost use Rattle.std.specs.Prelude.{◌≡◌, ◌↔◌, Some};
+ghost use Rattle.std.specs.Prelude.{◌≡◌, ◌↔◌, Some, None, if◌then◌else◌};
 
 use first_fault::Fault;
 
@@ -13,13 +13,24 @@ pub enum DefCode {
     Nesting,
     /// A name that stands a second time where names are distinct.
     NameRepeated,
-    /// A reference to a value name that isn't defined earlier in the same body.
+    /// A reference to no type or attribute, or to a value name that isn't defined earlier in the
+    /// same body, or for something else.
     RefUnknown,
+    /// Another number of parts than the type or attribute has parameters.
+    ParamCount,
+    /// The name of no predicate.
+    PredicateUnknown,
+    /// A body with too many choices.
+    ChoiceLimit,
+    /// The name of no kind of head.
+    BaseUnknown,
+    /// A statement that stands a second time in its body.
+    StatementRepeated,
+    /// A name that hasn't its shape, or that is reserved.
+    ReservedName,
+    /// A variable or an entry too many.
+    VarLimit,
 }
-
-/// Why a definition file is refused: the place of the token at which a rule is broken, in bytes
-/// from 0, and the number of the rule, from which `DefCode::of_number` gives the rule itself.
-pub type DefRefusal = Fault;
 
 impl DefCode {
     ghost use Rattle.dialect_registry.specs.declared.code.DefCode.{DefCode};
@@ -34,6 +45,13 @@ impl DefCode {
             2 => Some(DefCode::Nesting),
             3 => Some(DefCode::NameRepeated),
             4 => Some(DefCode::RefUnknown),
+            5 => Some(DefCode::ParamCount),
+            6 => Some(DefCode::PredicateUnknown),
+            7 => Some(DefCode::ChoiceLimit),
+            16 => Some(DefCode::BaseUnknown),
+            17 => Some(DefCode::StatementRepeated),
+            18 => Some(DefCode::ReservedName),
+            19 => Some(DefCode::VarLimit),
             _ => None,
         }
     }
@@ -47,6 +65,13 @@ impl DefCode {
             DefCode::Nesting => 2,
             DefCode::NameRepeated => 3,
             DefCode::RefUnknown => 4,
+            DefCode::ParamCount => 5,
+            DefCode::PredicateUnknown => 6,
+            DefCode::ChoiceLimit => 7,
+            DefCode::BaseUnknown => 16,
+            DefCode::StatementRepeated => 17,
+            DefCode::ReservedName => 18,
+            DefCode::VarLimit => 19,
         }
     }
 
@@ -59,6 +84,26 @@ impl DefCode {
             DefCode::Nesting => "Nesting",
             DefCode::NameRepeated => "NameRepeated",
             DefCode::RefUnknown => "RefUnknown",
+            DefCode::ParamCount => "ParamCount",
+            DefCode::PredicateUnknown => "PredicateUnknown",
+            DefCode::ChoiceLimit => "ChoiceLimit",
+            DefCode::BaseUnknown => "BaseUnknown",
+            DefCode::StatementRepeated => "StatementRepeated",
+            DefCode::ReservedName => "ReservedName",
+            DefCode::VarLimit => "VarLimit",
         }
     }
+}
+
+ghost use Rattle.dialect_registry.specs.Codes.{refusal};
+
+/// The refusal at a place by a rule, where the rule is broken.
+pub fn fault_if(broken: bool, place: u32, code: DefCode) -> Option<Fault>
+    ensures { result ≡ (if broken then Some (refusal place code) else None) }
+{
+    if !broken {
+        return None;
+    }
+    let code = code.number();
+    Some(Fault { place, code })
 }

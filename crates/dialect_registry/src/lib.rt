@@ -1,15 +1,26 @@
-//! The judgement of definition files: whether names and references mean anything.
+//! The judgement of definition files: whether names and references mean anything; and the values
+//! of trees, by the types and attributes that are defined.
 //!
-//! Begin at `judge_names` and `specs/NameFaults.antt`, which lists the faults.
+//! Begin at `judge` and `specs/DefFaults.antt`, which lists the rules. Constants and formats are
+//! judged behind them. What a tree means is said in the crate of `value_in`.
 #![tactic(auto)]
 
+mod body;
 mod code;
-mod name_faults;
+mod judging;
+mod limits;
 mod names;
+mod refusal;
 mod scope;
+mod shapes;
+mod statement;
+mod targets;
 
-pub use code::{DefCode, DefRefusal};
-pub use name_faults::judge_names;
+pub use code::DefCode;
+pub use judging::judge;
+pub use limits::CHOICE_LIMIT;
+pub use refusal::DefRefusal;
+pub use value_meaning::{Aliases, ValueStop, define_alias, value_in};
 
 #[cfg(test)]
 mod tests;

@@ -1,10 +1,12 @@
-//! Sets of names.
+//! Sets and maps of names.
 
-ghost use Rattle.std.specs.Prelude.{◌≡◌, ◌||◌, false, IfOk, not, bytes_eq};
-ghost use Rattle.std.specs.Prelude.{List, ℕ};
+ghost use Rattle.std.specs.Prelude.{◌≡◌, ◌||◌, false, IfOk, bytes_eq, is_some};
+ghost use Rattle.std.specs.Prelude.{List, ℕ, if◌then◌else◌};
+ghost use Rattle.std.specs.Option.{option_or, option_copied};
+ghost use Rattle.std.specs.declared.option.Option.TheVariants.{Some, None};
 
 use std::alloc::{AllocError, Global};
-use std::collections::HashSet;
+use std::collections::{HashMap, HashSet};
 
 /// A set of names, which are borrowed from the text's trees.
 #[derive(Drop)]
@@ -24,13 +26,6 @@ impl<'a> NameSet<'a> {
         }
     }
 
-    /// Whether the set has the name.
-    pub fn has(&self, name: &[u8]) -> bool
-        ensures { result ≡ holds self.now name.now }
-    {
-        self.names.contains(name)
-    }
-
     /// Adds a name, and says whether it was there already.
     pub fn add(&mut self, name: &'a [u8]) -> Result<bool, AllocError>
         ensures before { IfOk result (λ known. known ≡ holds self.old name.now) }
@@ -39,6 +34,48 @@ impl<'a> NameSet<'a> {
     {
         match self.names.insert(name) {
             Ok(added) => Ok(!added),
+            Err(_) => Err(AllocError),
+        }
+    }
+}
+
+/// Values under names, which are borrowed from the text's trees. The first value of a name stays.
+#[derive(Drop)]
+pub struct NameMap<'a, V> {
+    pub entries: HashMap<&'a [u8], V>,
+}
+
+impl<'a, V: Drop> NameMap<'a, V> {
+    ghost use Rattle.dialect_registry.specs.Scopes.{value_at};
+
+    /// No name. It takes no memory.
+    pub fn new(alloc: Global) -> NameMap<'a, V>
+        ensures { (name : List ℕ) → value_at result name ≡ None }
+    {
+        NameMap {
+            entries: HashMap::new(alloc),
+        }
+    }
+
+    /// The value of a name.
+    pub fn get(&self, name: &[u8]) -> Option<&V>
+        ensures { option_copied result ≡ value_at self.now name.now }
+    {
+        self.entries.get(name)
+    }
+
+    /// Gives a name a value where it has none, and says whether it had one.
+    pub fn add(&mut self, name: &'a [u8], value: V) -> Result<bool, AllocError>
+        ensures before { IfOk result (λ known. known ≡ is_some (value_at self.old name.now)) }
+        ensures after { IfOk result (λ known. (other : List ℕ) → value_at self.new other ≡
+            option_or (value_at self.old other)
+            (if bytes_eq name.now other then Some value else None)) }
+    {
+        if self.entries.contains_key(name) {
+            return Ok(true);
+        }
+        match self.entries.insert(name, value) {
+            Ok(_) => Ok(false),
             Err(_) => Err(AllocError),
         }
     }

@@ -2,9 +2,9 @@
 --
 -- The tokens of a text are those that its source tells, so what is read or refused of the source is
 -- read or refused of the text. A file that is not read is a read fault or too long.
-use Rattle.std.proofs.Common.{◌≡◌, ◌≤◌, inl, inr, [], ◌∷◌, ◌++◌, ℕ, length}
+use Rattle.std.proofs.Common.{◌≡◌, ◌≤◌, inl, inr, List, [], ◌∷◌, ◌++◌, ℕ, length, map}
 use Rattle.std.proofs.Common.{true, false, refl, ◌∙◌, ap, subst, append_assoc, arith}
-use Rattle.std.specs.Prelude.{IfSome, IfOk, IsTrue, Bool}
+use Rattle.std.specs.Prelude.{IfSome, IfOk, IsTrue, Bool, option_map}
 use Rattle.std.specs.declared.alloc.AllocError.{AllocError}
 use Rattle.std.specs.declared.option.Option.{Option}
 use Rattle.std.specs.declared.option.Option.TheVariants.{Some, None}
@@ -31,16 +31,17 @@ use Rattle.irdl_ops.specs.declared.raw.RawDefs.{RawDefs}
 use Rattle.irdl_ops.specs.Definitions.{DefText, TooDeepDef}
 use Rattle.irdl_ops.proofs.Files.{file-ends, front-file}
 use Rattle.dialect_registry.specs.declared.code.DefCode.{DefCode}
+use Rattle.dialect_registry.specs.declared.refusal.DefRefusal.{DefRefusal}
 use Rattle.dialect_registry.specs.Codes.{code_number, refusal}
-use Rattle.dialect_registry.specs.NameFaults.{IsFault}
-use Rattle.first_fault.specs.declared.fault.Fault.{Fault}
+use Rattle.dialect_registry.specs.DefFaults.{fault_in, IsFault, IsFirstIn}
+use Rattle.dialect_registry.proofs.Files.{one-file-first}
 use Rattle.first_fault.specs.Firsts.{IsFirst}
 use Rattle.irdl_engine.specs.declared.outcome.FileOutcome.TheVariants.{Accepted, Unreadable, TooLong}
 use Rattle.irdl_engine.specs.declared.outcome.FileOutcome.TheVariants.{Refused as RefusedFor}
 use Rattle.irdl_engine.specs.declared.outcome.Refusal.{Refusal}
 use Rattle.irdl_engine.specs.Answer.{MayAnswer, read_fault, refused, place_at}
 use Rattle.irdl_engine.specs.Command.{Check}
-use Rattle.irdl_engine.specs.Judged.{SpellsFile, IsDefinition, IsRefusedAt, rule_of}
+use Rattle.irdl_engine.specs.Judged.{SpellsFile, IsDefinition, IsFaultOf, IsRefusedAt, rule_of}
 use Rattle.irdl_engine.specs.Said.{StandsAt, IsVerdict}
 use Rattle.irdl_engine.specs.Said.{said, Shows}
 
@@ -90,19 +91,37 @@ pub judged-as : (src : Text) (d : RawDefs) (r : Result (Option Refusal) AllocErr
 judged-as src d (Ok verdict) h spells = h spells
 judged-as src d (Err e) h spells = tt
 
--- a text whose names have no fault is a definition file
-pub names-pass : (src : Text) (d : RawDefs) (found : Option Fault)
-    → IsFirst (IsFault d) found → found ≡ None → SpellsFile src d → IsVerdict src None
-names-pass src d found first e spells =
-    record { defs = d; spells = spells; faultless = subst (IsFirst (IsFault d)) e first }
+-- of no objects there are no names
+pub map-none : {A B : Type 0} (f : A → B) (xs : List A) → xs ≡ [] → map f xs ≡ []
+map-none f xs none = ap (map f) none
 
--- a text whose names have a fault is refused for the first
-pub names-fail : (src : Text) (d : RawDefs) (found : Option Fault) (f : Fault) (r : Refusal)
-    → IsFirst (IsFault d) found → found ≡ Some f → StandsAt src r f.place
+-- what is judged of one file, with no predicates, is judged of it by itself
+pub judged-alone : (d : RawDefs) (natives : List Text)
+    (r : Result (Option DefRefusal) AllocError) → natives ≡ []
+    → IfOk r (IsFirstIn (IsFault (d ∷ []) natives))
+    → IfOk r (λ found. IsFirst (IsFaultOf d) (option_map fault_in found))
+judged-alone d natives (Ok found) none h =
+    one-file-first d [] found (subst (λ n. IsFirstIn (IsFault (d ∷ []) n) found) none h)
+judged-alone d natives (Err e) none h = tt
+
+-- a file without a fault is a definition file
+pub file-passes : (src : Text) (d : RawDefs) (found : Option DefRefusal)
+    → IsFirst (IsFaultOf d) (option_map fault_in found) → found ≡ None → SpellsFile src d
+    → IsVerdict src None
+file-passes src d found first e spells = record {
+  defs = d;
+  spells = spells;
+  faultless = subst (λ o. IsFirst (IsFaultOf d) (option_map fault_in o)) e first;
+}
+
+-- a file with faults is refused for the first
+pub file-fails : (src : Text) (d : RawDefs) (found : Option DefRefusal) (f : DefRefusal)
+    (r : Refusal)
+    → IsFirst (IsFaultOf d) (option_map fault_in found) → found ≡ Some f → StandsAt src r f.place
     → code_number r.code ≡ f.code → SpellsFile src d → IsVerdict src (Some r)
-names-fail src d found f r first e stands rule spells =
-    let one : IsFirst (IsFault d) (Some (refusal f.place r.code)) =
-    rw rule (subst (IsFirst (IsFault d)) e first) in
+file-fails src d found f r first e stands rule spells =
+    let one : IsFirst (IsFaultOf d) (Some (refusal f.place r.code)) =
+    rw rule (subst (λ o. IsFirst (IsFaultOf d) (option_map fault_in o)) e first) in
     let refused_at : IsRefusedAt src f.place r.code =
     inr (record { defs = d; spells = spells; first = one }) in
     record { at = f.place; refused = refused_at; stands = stands }

@@ -19,7 +19,6 @@ use Rattle.irdl_ops.specs.declared.raw.RawDefs.{RawDefs}
 use Rattle.irdl_ops.proofs.Files.{file-not-refused, one-file, refused-once}
 use Rattle.dialect_registry.specs.declared.code.DefCode.{DefCode}
 use Rattle.dialect_registry.specs.Codes.{refusal}
-use Rattle.dialect_registry.specs.NameFaults.{IsFault}
 use Rattle.dialect_registry.proofs.Codes.{code_number-same}
 use Rattle.first_fault.specs.Firsts.{IsFirst}
 use Rattle.first_fault.proofs.Firsts.{first-once}
@@ -28,7 +27,7 @@ use Rattle.irdl_engine.specs.declared.status.Status.TheVariants.{Done, OutOfMemo
 use Rattle.irdl_engine.specs.Answer.{Answer, Accepted, Judged, Checked, Obeys, MayAnswer}
 use Rattle.irdl_engine.specs.Answer.{done, refused, place_at}
 use Rattle.irdl_engine.specs.Command.{Command, Check}
-use Rattle.irdl_engine.specs.Judged.{SpellsFile, IsDefinition, IsSyntaxRefusal, IsNameRefusal, IsRefusedAt, rule_of}
+use Rattle.irdl_engine.specs.Judged.{SpellsFile, IsDefinition, IsFaultOf, IsSyntaxRefusal, IsRuleRefusal, IsRefusedAt, rule_of}
 use Rattle.irdl_engine.specs.Writes.{Change, GivesAll, GivesFronts, GivesPlanned, MayGive}
 
 -- ---- one answer
@@ -57,7 +56,7 @@ not-both : (src : Text) (place : ℕ) (code : DefCode)
 not-both src place code d (inl r) = spelled-or-refused src d.defs place code d.spells r
 not-both src place code d (inr r) =
     let same : r.defs ≡ d.defs = spelled-once src r.defs d.defs r.spells d.spells in
-    let fault = subst (λ w. IsFault w (refusal place code)) same r.first.0 in
+    let fault = subst (λ w. IsFaultOf w (refusal place code)) same r.first.0 in
     d.faultless (refusal place code) fault
 
 -- two refusals of syntax are at one place, by one rule
@@ -71,15 +70,15 @@ one-syntax src p q c e x y =
     let u = refused-once y.tokens p q x.syntax y.syntax refusal y.refusal in
     (u.0, x.rule ∙ ap rule_of u.1 ∙ sym y.rule)
 
--- two refusals of names are at one place, by one rule
+-- two refusals for broken rules are at one place, by one rule
 one-fault : (src : Text) (p q : ℕ) (c e : DefCode)
-    → IsNameRefusal src p c → IsNameRefusal src q e → (p ≡ q) × (c ≡ e)
+    → IsRuleRefusal src p c → IsRuleRefusal src q e → (p ≡ q) × (c ≡ e)
 one-fault src p q c e x y =
     let same : x.defs ≡ y.defs = spelled-once src x.defs y.defs x.spells y.spells in
-    let first = subst (λ w. IsFirst (IsFault w) (Some (refusal p c)))
+    let first = subst (λ w. IsFirst (IsFaultOf w) (Some (refusal p c)))
     same x.first in
     let same_fault =
-    first-once (IsFault y.defs) (refusal p c) (refusal q e) first y.first in
+    first-once (IsFaultOf y.defs) (refusal p c) (refusal q e) first y.first in
     (same_fault.0, code_number-same c e same_fault.1)
 
 one-place : (src : Text) (p q : ℕ) (c e : DefCode)

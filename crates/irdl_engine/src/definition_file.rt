@@ -1,22 +1,26 @@
 //! The judgement of one definition file.
 
-ghost use Rattle.std.specs.Prelude.{◌≡◌, ◌≤◌, Some, IsTrue, IfOk, IfSome, length};
+ghost use Rattle.std.specs.Prelude.{◌≡◌, ◌≤◌, Some, IsTrue, IfOk, IfSome, length, option_map};
 ghost use Rattle.irdl_bytes.specs.Outside.{Rose, FaultsByItself};
 ghost use Rattle.irdl_bytes.specs.declared.whole.TheConstants.{FILE_LIMIT};
 ghost use Rattle.irdl_engine.specs.Command as spec;
 ghost use Rattle.irdl_engine.specs.Answer.{MayAnswer};
 ghost use Rattle.irdl_engine.specs.Judged as judged;
-ghost use Rattle.irdl_engine.specs.Judged.{SpellsFile};
+ghost use Rattle.irdl_engine.specs.Judged.{IsFaultOf, SpellsFile};
+ghost use Rattle.dialect_registry.specs.Codes.{IsRule};
+ghost use Rattle.dialect_registry.specs.DefFaults.{fault_in};
+ghost use Rattle.first_fault.specs.Firsts.{IsFirst};
 ghost use Rattle.irdl_engine.specs.Said.{said, StandsAt, IsVerdict};
 
 use crate::outcome::{FileOutcome, Refusal};
 use crate::status::Status;
-use dialect_registry::{DefCode, judge_names};
+use dialect_registry::{DefCode, DefRefusal, judge};
 use generic_syntax::SyntaxStop;
 use grammar::SyntaxCode;
 use ir_lexer::{SliceTokens, line_col};
 use irdl_bytes::{Files, ReadError, read_whole};
 use irdl_ops::{RawDefs, read_definitions};
+use native_predicate::Natives;
 use std::alloc::{AllocError, Global};
 
 /// The rule that a refused token breaks.
@@ -41,16 +45,21 @@ fn refusal_at(src: &[u8], place: u32, code: DefCode) -> Refusal
     }
 }
 
-/// Judges the names of a definition file of this text.
-fn judge_file_names(
-    alloc: Global,
-    src: &[u8],
-    defs: &RawDefs,
-) -> Result<Option<Refusal>, AllocError>
-    requires { length src.now ≤ FILE_LIMIT }
-    ensures { IfOk result (λ verdict. SpellsFile src.now defs.now → IsVerdict src.now verdict) }
+/// The first fault of a definition file by itself. No predicates are handed in yet.
+fn judge_alone(alloc: Global, defs: RawDefs) -> Result<Option<DefRefusal>, AllocError>
+    ensures first { IfOk result (λ found. IsFirst (IsFaultOf defs) (option_map fault_in found)) }
+    ensures rule { IfOk result (λ found. IfSome found (λ refusal. IsRule refusal.code)) }
 {
-    match judge_names(alloc, defs)? {
+    let natives = Natives::new(Vec::new(alloc));
+    judge(alloc, &[defs], &natives)
+}
+
+/// Judges a definition file of this text.
+fn judge_defs(alloc: Global, src: &[u8], defs: RawDefs) -> Result<Option<Refusal>, AllocError>
+    requires { length src.now ≤ FILE_LIMIT }
+    ensures { IfOk result (λ verdict. SpellsFile src.now defs → IsVerdict src.now verdict) }
+{
+    match judge_alone(alloc, defs)? {
         None => Ok(None),
         Some(refusal) => match DefCode::of_number(refusal.code) {
             Some(code) => Ok(Some(refusal_at(src, refusal.place, code))),
@@ -66,7 +75,7 @@ pub fn judge_text(alloc: Global, src: &[u8]) -> Result<Option<Refusal>, AllocErr
 {
     let mut tokens = SliceTokens::new(src);
     match read_definitions(alloc, &mut tokens) {
-        Ok(defs) => judge_file_names(alloc, src, &defs),
+        Ok(defs) => judge_defs(alloc, src, defs),
         Err(SyntaxStop::At { place, code }) => Ok(Some(refusal_at(src, place, rule_of(code)))),
         Err(SyntaxStop::Failed) => unreachable!(),
         Err(SyntaxStop::OutOfMemory) => Err(AllocError),

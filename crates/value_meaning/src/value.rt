@@ -88,6 +88,7 @@ pub fn define_alias(
     requires defs { AreSoundDefs (length u.old) (count natives.now) types.now }
     requires aliases { AreGoodAliases u.old (tests property natives.now) types.now aliases.old }
     ensures later { Extends u.old u.new }
+    ensures known { IfOk result (λ id. id.0 < length u.new) }
     ensures good { AreGoodAliases u.new (tests property natives.now) types.now aliases.new }
     ensures defined { IfOk result (λ id. (kind : Bool) (other : List ℕ) →
         id_of aliases.new kind other ≡ with_alias (id_of aliases.old) is_type name id kind other) }

@@ -5,7 +5,7 @@ use Rattle.irdl_engine.proofs.Judging.{told-spells, told-refused, judged-as}
 use Rattle.irdl_engine.proofs.definition_file.judge_text.Goals as goal
 
 pub returns-in-Ok : goal.returns-in-Ok
-returns-in-Ok c = judged-as c.args.src.now c.in-Ok.defs _ c.judge_file_names.ensures
+returns-in-Ok c = judged-as c.args.src.now c.in-Ok.defs _ c.judge_defs.ensures
     (told-spells _ c.args.src.now _ c.new-tokens.ensures c.read_definitions.ensures.answer
     c.in-Ok.defs c.in-Ok.is)
 

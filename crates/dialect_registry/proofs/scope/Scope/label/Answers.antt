@@ -5,4 +5,4 @@ use Rattle.dialect_registry.proofs.scope.Scope.label.Goals as goal
 pub returns : goal.returns
 returns c = λ ms k. rw c.note_if.ensures
     (knows-label ms c.args.place c.args.name.now c.args.self.now _ k c.in_ok-known.known
-    c.in_ok-known.ensures.before c.in_ok-known.ensures.after refl refl)
+    c.in_ok-known.ensures.before c.in_ok-known.ensures.after refl refl refl refl)

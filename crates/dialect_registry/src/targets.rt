@@ -1,0 +1,91 @@
+//! What references to definitions name.
+
+ghost use Rattle.std.specs.Prelude.{◌≡◌, ◌++◌, List, ℕ, IfOk, OnOk};
+ghost use Rattle.irdl_ops.specs.declared.raw.RawDialect.{RawDialect};
+ghost use Rattle.dialect_registry.specs.DefFaults.{dialects_of};
+ghost use Rattle.dialect_registry.specs.Scopes.{Finds, found, found_in};
+ghost use Rattle.dialect_registry.specs.Targets as spec;
+
+use crate::names::NameMap;
+use irdl_ops::{DefKind, RawDef, RawDefs, RawDialect, RawStatement, StatementKind};
+use std::alloc::{AllocError, Global};
+
+/// The definitions of a dialect by their names: how many parameters a type or attribute has, and
+/// nothing of an operation, to which nothing refers.
+pub type Definitions<'a> = NameMap<'a, Option<usize>>;
+
+/// The dialects by their names, each with its definitions. The first of a name stays.
+#[derive(Drop)]
+pub struct Targets<'a> {
+    pub dialects: NameMap<'a, Definitions<'a>>,
+}
+
+/// How many parameters a body lists first.
+fn parameter_count(statements: &[RawStatement]) -> usize
+    ensures { result ≡ spec.parameter_count statements.now }
+{
+    for statement in statements {
+        if let StatementKind::Parameters(entries) = &statement.kind {
+            return entries.len();
+        }
+    }
+    0
+}
+
+/// How many parameters a type or an attribute has; `None` of an operation.
+fn parameters_of(def: &RawDef) -> Option<usize>
+    ensures { result ≡ spec.parameters_of def.now }
+{
+    match def.kind {
+        DefKind::OfType | DefKind::OfAttr => Some(parameter_count(def.statements.as_slice())),
+        DefKind::OfOp => None,
+    }
+}
+
+/// The definitions of a dialect by their names.
+fn definitions_of<'a>(alloc: Global, dialect: &'a RawDialect) -> Result<Definitions<'a>, AllocError>
+    ensures { IfOk result (λ named. (name : List ℕ) →
+        found_in name named ≡ spec.named_in name dialect.now) }
+{
+    let mut named = NameMap::new(alloc);
+    for def in dialect.defs.as_slice() {
+        named.add(def.name.bytes(), parameters_of(def))?;
+    }
+    Ok(named)
+}
+
+impl<'a> Targets<'a> {
+    /// What references may name in these files.
+    pub fn of(alloc: Global, files: &'a [RawDefs]) -> Result<Targets<'a>, AllocError>
+        ensures { IfOk result (Finds (dialects_of files.now)) }
+    {
+        let mut targets = Targets {
+            dialects: NameMap::new(alloc),
+        };
+        for defs in files {
+            targets.add_file(alloc, defs)?;
+        }
+        Ok(targets)
+    }
+
+    /// Adds the dialects of one more file.
+    fn add_file(&mut self, alloc: Global, defs: &'a RawDefs) -> Result<(), AllocError>
+        ensures { OnOk result ((before : List RawDialect) → Finds before self.old →
+            Finds (before ++ defs.now.dialects) self.new) }
+    {
+        for dialect in defs.dialects.as_slice() {
+            let definitions = definitions_of(alloc, dialect)?;
+            self.dialects.add(dialect.name.bytes(), definitions)?;
+        }
+        Ok(())
+    }
+
+    /// How many parameters the type or attribute of this name in this dialect has; `None` where
+    /// there is none.
+    pub fn find(&self, dialect: &[u8], name: &[u8]) -> Option<usize>
+        ensures { result ≡ found self.now dialect.now name.now }
+    {
+        let definitions = self.dialects.get(dialect)?;
+        *definitions.get(name)?
+    }
+}
