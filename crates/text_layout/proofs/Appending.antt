@@ -2,7 +2,7 @@
 --
 -- What a sink got in pieces is what it got of all of them: all where each was appended whole, a
 -- front where one of them was cut.
-use Rattle.std.proofs.Common.{◌≡◌, ◌<◌, List, ℕ, suc, ◌+◌, ◌∷◌, ◌++◌, length, take, drop, min, get_or}
+use Rattle.std.proofs.Common.{◌≡◌, ◌<◌, ◌≤◌, List, ℕ, suc, ◌+◌, ◌-◌, ◌∷◌, ◌++◌, length, take, drop, min, get_or}
 use Rattle.std.proofs.Common.{[], append_assoc, append-nil, arith, refl, ap, sym, subst, ◌∙◌}
 use Rattle.std.specs.List.{flat_map}
 use Rattle.std.proofs.Math.Seq.{take-append-add, take-suc}
@@ -37,6 +37,13 @@ fronts-then (Some x) (Some y) (Some z) xs ys zs h k =
       take_min k.0 ys,
     ) refl in
     (length xs + min k.0 (length ys), rw e (grind (arith, append_assoc, h, k.1)))
+
+-- the first bytes of two pieces, where they pass the first one
+pub cut-behind : (xs ys : List ℕ) (n : ℕ)
+    → length xs ≤ n → take n (xs ++ ys) ≡ xs ++ take (n - length xs) ys
+cut-behind xs ys n le =
+    let is : n ≡ length xs + (n - length xs) = omega arith in
+    ap (λ k. take k (xs ++ ys)) is ∙ take-append-add xs ys (n - length xs)
 
 -- ---- pieces that are held back
 

@@ -6,7 +6,7 @@ use Rattle.text_layout.specs.declared.error.PrintError.TheVariants.{WriteFault, 
 use Rattle.text_layout.specs.Flow.{Adds, PrintHasCause, Stops, Drains}
 use Rattle.text_layout.specs.Lines.{Mark, Line, bytes_of, line_after, line_behind, line_end, text_of, layout}
 use Rattle.text_layout.specs.Moment.{Moment, first_moment, Goes, Laid, Stopped, Lays, Ended, Wrote}
-use Rattle.text_layout.proofs.Flows.{adds-then, adds-nothing, cause-then, cause-more, drains-then}
+use Rattle.text_layout.proofs.Flows.{adds-then, adds-nothing, cause-then, cause-more, stops-more, drains-then}
 
 -- ---- marks behind marks
 
@@ -58,11 +58,8 @@ stopped-more : (a b : Moment) (ms ns : List Mark) (e : PrintError) → Stopped a
     → Stopped a (ms ++ ns) e b
 stopped-more a b ms ns e x = record {
   is = x.is;
-  stops = subst (λ t. Stops a.flow t e b.flow) (sym (text-join a.line ms ns)) (record {
-    cause = cause-more a.flow (text_of a.line ms) (text_of (line_behind a.line ms) ns) e
-        b.flow.written b.flow.faults x.stops.cause;
-    later = x.stops.later;
-  });
+  stops = subst (λ t. Stops a.flow t e b.flow) (sym (text-join a.line ms ns))
+      (stops-more a.flow b.flow (text_of a.line ms) (text_of (line_behind a.line ms) ns) e x.stops);
 }
 
 -- marks that went in, and then what became of others
@@ -86,7 +83,7 @@ starts w f = record { on = refl; within = omega arith }
 -- what the sink got of a text
 wrote-cause : (w v : Option Text) (f n : ℕ) (t : Text) (e : PrintError)
     → PrintHasCause (first_moment w f).flow t e v n → Wrote w f t (Err e) v n
-wrote-cause w v f n t WriteFault (rose, part) = (part, rose)
+wrote-cause w v f n t WriteFault (rose, part, some) = (part, rose, some)
 wrote-cause w v f n t OutputLimit (beyond, all) = (all, omega arith)
 wrote-cause w v f n t OutOfMemory part = part
 

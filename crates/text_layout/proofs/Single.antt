@@ -17,6 +17,7 @@ use Rattle.ir_lexer.proofs.Once.{one-list}
 use Rattle.ir_lexer.proofs.Texts.{three-bytes}
 use Rattle.grammar.specs.Looks.{passes, int_word, is_integer_word}
 use Rattle.text_layout.specs.Lines.{stays_apart}
+use Rattle.text_layout.proofs.Appending.{cut-behind}
 
 -- the first token of a spelling is all of it
 only-token : (a : Class) (x : Text) (now : Token) (ts : List Token) → Spells a x
@@ -81,11 +82,6 @@ one-byte-more joined x y i d less e =
   where
     add-one : i + 1 ≡ suc i
     add-one = omega arith
-
-cut-behind : (x y : Text) (m : ℕ) → length x ≤ m → take m (x ++ y) ≡ x ++ take (m - length x) y
-cut-behind x y m le =
-    let is : m ≡ length x + (m - length x) = omega arith in
-    ap (λ n. take n (x ++ y)) is ∙ take-append-add x y (m - length x)
 
 -- a longer spelling fails the test
 pub joins : (a class : Class) (x y : Text) (i : ℕ) → Spells a x → 0 < i → i ≤ length (take 3 y)

@@ -1,16 +1,17 @@
 -- Bytes on their way to a sink.
 --
 -- A sink gets bytes in pieces. So it has the first bytes of the text so far, and the rest is held
--- back. The text has a limit.
+-- back. The text has a limit, and the sink gets no byte beyond it.
 --
 --   Flow                  what went in so far, and what the sink got
+--   owed f bytes          what the sink is owed, up to the limit
 --   Adds f bytes f'       the bytes went in
 --   PrintHasCause f bytes e w n
 --                         why an error may come while the bytes go in
 --   Stops f bytes e f'    an error came while the bytes went in, and has its cause
 --   Drains f bytes result w n
 --                         the bytes went in as the last ones, and the sink has all
-use Rattle.std.specs.Prelude.{◌≡◌, ◌≢◌, ℕ, ◌+◌, ◌-◌, ◌<◌, ◌≤◌, ◌++◌, length, take, Option, Result, Ok, Err}
+use Rattle.std.specs.Prelude.{◌≡◌, ◌≢◌, ℕ, ◌+◌, ◌-◌, ◌<◌, ◌≤◌, [], ◌++◌, length, take, Option, Result, Ok, Err}
 use Rattle.std.specs.Io.KnownBytes.{Appends}
 use Rattle.irdl_bytes.specs.Outside.{Rose, AppendsPrefix}
 use Rattle.ir_lexer.specs.declared.lexer.TheConstants.{TEXT_LIMIT}
@@ -29,6 +30,10 @@ pub record Flow : Type 0 where
   -- how often the sink failed
   pub faults : ℕ
 
+-- What the sink is owed when bytes go in: what is held back, and the bytes up to the limit.
+abbrev pub owed : Flow → Text → Text
+owed old bytes = take (length old.held + (TEXT_LIMIT - old.laid)) (old.held ++ bytes)
+
 -- The bytes went in: the sink got the first of those that it is owed, and the rest is held back.
 pub record Adds (old : Flow) (bytes : Text) (new : Flow) : Type 0 where
   pub laid : new.laid ≡ old.laid + length bytes
@@ -38,17 +43,16 @@ pub record Adds (old : Flow) (bytes : Text) (new : Flow) : Type 0 where
   pub later : old.faults ≤ new.faults
 
 -- Why an error came while bytes went in, by the bytes that the sink then got, and its count. At a
--- fault the count rose. At the limit, the text passes it, and the sink has the bytes up to there.
--- The sink has always got the first bytes of those that it is owed.
+-- fault the count rose, and there was something to write. At the limit, the text passes it, and the
+-- sink has the bytes up to there. The sink has always got the first bytes of those that it is owed.
 abbrev pub PrintHasCause : Flow → Text → PrintError → Option Text → ℕ → Type 0
 PrintHasCause old bytes WriteFault written faults =
-    Rose old.faults faults × AppendsPrefix old.written written (old.held ++ bytes)
+    Rose old.faults faults × AppendsPrefix old.written written (owed old bytes)
+    × (old.held ++ bytes ≢ [])
 PrintHasCause old bytes OutputLimit written faults =
-    (TEXT_LIMIT < old.laid + length bytes)
-    × Appends old.written written
-    (take (length old.held + (TEXT_LIMIT - old.laid)) (old.held ++ bytes))
+    (TEXT_LIMIT < old.laid + length bytes) × Appends old.written written (owed old bytes)
 PrintHasCause old bytes OutOfMemory written faults =
-    AppendsPrefix old.written written (old.held ++ bytes)
+    AppendsPrefix old.written written (owed old bytes)
 
 -- an error came while bytes went in
 pub record Stops (old : Flow) (bytes : Text) (e : PrintError) (new : Flow) : Type 0 where

@@ -7,7 +7,7 @@
 --   Ended m result w n        the last line was ended, and the sink has all
 --   Wrote w n text result w' n'
 --                             what a sink got of a text as a whole
-use Rattle.std.specs.Prelude.{◌≡◌, ℕ, ◌<◌, ◌≤◌, List, [], length, take, Option, Some, None, Result, Ok, Err}
+use Rattle.std.specs.Prelude.{◌≡◌, ◌≢◌, ℕ, ◌<◌, ◌≤◌, List, [], length, take, Option, Some, None, Result, Ok, Err}
 use Rattle.std.specs.Io.KnownBytes.{Appends}
 use Rattle.irdl_bytes.specs.Outside.{Rose, AppendsPrefix}
 use Rattle.ir_lexer.specs.declared.lexer.TheConstants.{TEXT_LIMIT}
@@ -69,13 +69,15 @@ pub record Ended (old : Moment) (result : Result (Unit {0}) PrintError) (written
   pub again : (e : PrintError) → old.stopped ≡ Some e
       → (result ≡ Err e) × (written ≡ old.flow.written) × (faults ≡ old.flow.faults)
 
--- What a sink got of a text: all of it, within the limit; or the first bytes, and the count rose;
--- or, of a longer text, those up to the limit.
+-- What a sink got of a text: all of it, within the limit; or, of a longer text, the bytes up to the
+-- limit; or a front of these, where a fault came, and the count rose, or where memory ran out.
+-- Where there is nothing to write, no fault comes.
 abbrev pub Wrote : Option Text → ℕ → Text → Result (Unit {0}) PrintError → Option Text → ℕ → Type 0
 Wrote before count text (Ok done) written faults =
     Appends before written text × (length text ≤ TEXT_LIMIT)
 Wrote before count text (Err WriteFault) written faults =
-    AppendsPrefix before written text × Rose count faults
+    AppendsPrefix before written (take TEXT_LIMIT text) × Rose count faults × (text ≢ [])
 Wrote before count text (Err OutputLimit) written faults =
     Appends before written (take TEXT_LIMIT text) × (TEXT_LIMIT < length text)
-Wrote before count text (Err OutOfMemory) written faults = AppendsPrefix before written text
+Wrote before count text (Err OutOfMemory) written faults =
+    AppendsPrefix before written (take TEXT_LIMIT text)

@@ -18,9 +18,10 @@ use std::alloc::Global;
 /// Writes tokens to a sink as the bytes of `layout` of `specs/Lines.antt`.
 ///
 /// The sink gets bytes in pieces of 64 KiB and more, and the last ones at [`Layout::end`]; until
-/// then it has the first bytes of the text so far. A clause sees the sink (`sink_of`), and where
-/// the line and the text stand (`moment`). What the calls say adds up: marks that are laid down one
-/// after another are laid down together (`adds_up` of `src/laws.rt`).
+/// then it has the first bytes of the text so far. It gets none behind the first 16,777,216 of a
+/// text, whatever is answered. A clause sees the sink (`sink_of`), and where the line and the text
+/// stand (`moment`). What the calls say adds up: marks that are laid down one after another are
+/// laid down together (`adds_up` of `src/laws.rt`).
 ///
 /// `P` is always `Page`. It is a type parameter since the contract of `end` speaks of the sink
 /// behind the reference, and can't where a field's own type owns memory.
@@ -43,8 +44,7 @@ impl<'a, S: Sink> Layout<'a, S, Page> {
         }
     }
 
-    /// Lays a token down, whose text spells its class, with what stands before it. It keeps that
-    /// text until the next token.
+    /// Lays a token down, whose text spells its class, with what stands before it.
     ///
     /// `WriteFault` where the sink failed, `OutputLimit` where the text so far would have more than
     /// 16,777,216 bytes, and `OutOfMemory`. After an error, each call answers the same one and

@@ -7,7 +7,7 @@ ghost use Rattle.ir_lexer.specs.declared.lexer.TheConstants.{TEXT_LIMIT};
 ghost use Rattle.ir_lexer.specs.Signs.{line_feed};
 ghost use Rattle.text_layout.specs.Flow.{Adds, PrintHasCause, Stops, Drains};
 ghost use Rattle.text_layout.specs.OutputFlow.{flow_of};
-ghost use Rattle.text_layout.specs.PageInside.{HasRoom};
+ghost use Rattle.text_layout.specs.PageInside.{HasRoom, last_text};
 
 use crate::error::PrintError;
 use crate::pieces::write_pieces;
@@ -18,11 +18,14 @@ use std::alloc::{AllocError, Global};
 /// As many bytes or more are handed to the sink at once.
 const PIECE_LEN: usize = 65_536;
 
-/// Bytes that the sink hasn't got, and how many went in so far.
+/// Bytes that the sink hasn't got, and how many went in so far. The last text that was put in is
+/// among the former, as their last bytes until a line feed comes.
 #[derive(Drop)]
 pub struct Output {
     pub held: Vec<u8>,
     pub laid: usize,
+    /// How many bytes that text has.
+    pub last: usize,
 }
 
 impl Output {
@@ -33,10 +36,18 @@ impl Output {
         Output {
             held: Vec::new(alloc),
             laid: 0,
+            last: 0,
         }
     }
 
-    /// Takes a gap and a text, and hands all to the sink where that is much.
+    /// The text that was put in last, where no line feed stands behind it.
+    pub fn last_text(&self) -> &[u8]
+        ensures { result.now ≡ last_text self.now }
+    {
+        &self.held[self.held.len().saturating_sub(self.last)..]
+    }
+
+    /// Takes a gap and a text. What is held already is handed to the sink first, where it is much.
     pub fn put<S: Sink>(&mut self, sink: &mut S, gap: &[u8], text: &[u8]) -> Result<(), PrintError>
         requires within { self.old.laid ≤ TEXT_LIMIT }
         ensures ok { OnOk result (Adds (flow_of self.old (S.written sink.old) (S.faults sink.old))
@@ -45,15 +56,18 @@ impl Output {
             (λ e. Stops (flow_of self.old (S.written sink.old) (S.faults sink.old))
             (gap.now ++ text.now) e (flow_of self.new (S.written sink.new) (S.faults sink.new))) }
         ensures within { self.new.laid ≤ TEXT_LIMIT }
+        ensures last { OnOk result (last_text self.new ≡ text.now) }
         ensures room { OnOk result (HasRoom self.new) }
-        ensures same_room { HasRoom self.old → HasRoom self.new }
     {
         let room = TEXT_LIMIT - self.laid;
         if gap.len() > room || text.len() > room - gap.len() {
             return Err(self.cut(sink, gap, text));
         }
-        self.keep(gap, text).map_err(|_| PrintError::OutOfMemory)?;
-        self.hand_on(sink)
+        self.hand_on(sink)?;
+        match self.keep(gap, text) {
+            Ok(()) => Ok(()),
+            Err(_) => Err(PrintError::OutOfMemory),
+        }
     }
 
     /// Takes a line feed. It takes no memory.
@@ -104,10 +118,10 @@ impl Output {
         ensures empty { OnOk result (self.new.held.items ≡ []) }
         ensures fault { IfErr result (λ e. e ≡ PrintError.WriteFault) }
         ensures cause { OnErr result (Rose (S.faults sink.old) (S.faults sink.new)) }
+        ensures some { OnErr result (self.old.held.items ≢ []) }
         ensures part { OnErr result
             (AppendsPrefix (S.written sink.old) (S.written sink.new) self.old.held.items) }
         ensures laid { self.new.laid ≡ self.old.laid }
-        ensures room { HasRoom self.old → HasRoom self.new }
         ensures later { S.faults sink.old ≤ S.faults sink.new }
     {
         if self.held.is_empty() {
@@ -128,13 +142,23 @@ impl Output {
         ensures laid { OnOk result
             (self.new.laid ≡ self.old.laid + length (gap.now ++ text.now)) }
         ensures err { OnErr result (self.new.laid ≡ self.old.laid) }
+        ensures last { OnOk result (last_text self.new ≡ text.now) }
         ensures room { OnOk result (HasRoom self.new) }
-        ensures same_room { HasRoom self.old → HasRoom self.new }
     {
         self.held.reserve(gap.len() + text.len() + 1)?;
-        let _ = self.held.extend_from_slice(gap);
+        // Most gaps are a space or nothing, which is no work for a copy.
+        match gap {
+            [] => {}
+            [byte] => {
+                let _ = self.held.push(*byte);
+            }
+            _ => {
+                let _ = self.held.extend_from_slice(gap);
+            }
+        }
         let _ = self.held.extend_from_slice(text);
         self.laid += gap.len() + text.len();
+        self.last = text.len();
         Ok(())
     }
 
@@ -146,7 +170,6 @@ impl Output {
             (λ e. Stops (flow_of self.old (S.written sink.old) (S.faults sink.old))
             [] e (flow_of self.new (S.written sink.new) (S.faults sink.new))) }
         ensures laid { self.new.laid ≡ self.old.laid }
-        ensures room { HasRoom self.old → HasRoom self.new }
     {
         if self.held.len() < PIECE_LEN {
             return Ok(());

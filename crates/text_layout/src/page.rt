@@ -27,8 +27,6 @@ pub struct Page {
     indent: u32,
     ends: Option<Ends>,
     gap: Gap,
-    /// The text of the line's last token.
-    spelling: Vec<u8>,
     /// Room for two texts put together.
     joined: Vec<u8>,
     output: Output,
@@ -56,7 +54,6 @@ impl Page {
             indent: 0,
             ends: None,
             gap: Gap::Plain,
-            spelling: Vec::new(alloc),
             joined: Vec::new(alloc),
             output: Output::new(alloc),
             stopped: None,
@@ -180,13 +177,9 @@ impl Page {
         let blank = self
             .gap_before(class, text)
             .map_err(|_| PrintError::OutOfMemory)?;
-        self.output.put(sink, blank.bytes(), text)?;
         let first = first_of(self.gap, self.ends, class);
         self.ends = None;
-        self.spelling.clear();
-        self.spelling
-            .extend_from_slice(text)
-            .map_err(|_| PrintError::OutOfMemory)?;
+        self.output.put(sink, blank.bytes(), text)?;
         self.ends = Some(Ends { first, last: class });
         self.gap = Gap::Plain;
         Ok(())
@@ -228,12 +221,13 @@ impl Page {
         match self.gap {
             Gap::Newline => Ok(Blank::Break(self.indent + 2)),
             Gap::Space => Ok(Blank::Space),
-            Gap::Plain => Ok(space_unless(is_tight(ends, &self.spelling, class))),
+            Gap::Plain => Ok(space_unless(is_tight(ends, self.output.last_text(), class))),
             Gap::Empty => {
-                if is_tight(ends, &self.spelling, class) {
+                let last = self.output.last_text();
+                if is_tight(ends, last, class) {
                     return Ok(Blank::Nothing);
                 }
-                let apart = stays_apart(&mut self.joined, ends.last, &self.spelling, text)?;
+                let apart = stays_apart(&mut self.joined, ends.last, last, text)?;
                 Ok(space_unless(apart))
             }
         }
