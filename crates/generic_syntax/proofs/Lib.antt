@@ -5,4 +5,8 @@ pub mod Rows
 pub mod Steps
 pub mod Parsing
 pub mod Above
+pub mod Regions
+pub mod ModuleTokens
+pub mod ModuleSteps
+pub mod ModuleFiles
 pub mod Dims

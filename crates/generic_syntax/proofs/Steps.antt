@@ -73,12 +73,18 @@ took-as {test = test} {other = other} {f = f} {s = s} {r = r} e x = record {
 by-class : (l : Look) (t : Token) → passes l t ≡ true → passes (any_of (class_of l)) t ≡ true
 by-class l t h = let u = and-true _ (text_fits l t.text) h in rw u.0 refl
 
+-- a token that passes the look, taken by its class
+pub took-look : {A : Type 0} (l : Look) {f : Token → A} {s s' : Source} {r : Result A SyntaxStop}
+    → passes l s.now ≡ true → Took (passes (any_of (class_of l))) f s r s'
+    → Took (passes l) f s r s'
+took-look l {s = s} h x = took-as (by-class l s.now h ∙ sym h) x
+
 module _ {X : Type 0} {Sem : X → Type 0} {e : Env X Sem} where
-  -- a token that passes the look, taken by its class
+  -- the same, as a piece of its own
   pub at-look : {A : Type 0} (l : Look) {f : Token → A} {s s' : Source} {r : Result A SyntaxStop}
       → passes l s.now ≡ true → Took (passes (any_of (class_of l))) f s r s'
       → Reads e (tok false l f) s r s'
-  at-look l {s = s} h x = at-tok (took-as (by-class l s.now h ∙ sym h) x)
+  at-look l h x = at-tok (took-look l h x)
 
 module _ {e : Env Sort Sem} where
   -- one of these words

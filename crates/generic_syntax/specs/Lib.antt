@@ -4,4 +4,8 @@ pub mod Sorts
 pub mod Nested
 pub mod Begins
 pub mod Pieces
+pub mod ModuleForms
+pub mod Operations
+pub mod Modules
+pub mod ModuleText
 pub mod Dims

@@ -1,4 +1,5 @@
-//! Trees of what is read, and the readers of types and attributes.
+//! Trees of what is read, and the readers of types and attributes, of what stands beside regions in
+//! operations, and of modules in generic form.
 //!
 //! A tree keeps what was written and where; what it means is found by the crates above. Contracts
 //! see each tree as plain data, and a grammar makes the very same data, so "the tree of these
@@ -7,6 +8,7 @@
 
 mod cst;
 mod leaf;
+mod module;
 mod module_cst;
 mod name;
 mod parse;
@@ -17,6 +19,11 @@ mod value;
 
 pub use cst::{EntryCst, ItemCst, NameCst, ValueCst, ValueNode};
 pub use grammar::{SyntaxCode, SyntaxStop};
+pub use module::{
+    parse_generic, read_aliases, read_attributes, read_block_arguments, read_operand,
+    read_operands, read_properties, read_result_names, read_signature, read_some_uses,
+    read_successors, read_uses,
+};
 pub use module_cst::{
     AliasCst, ArgCst, BlockCst, CustomCst, FormCst, GenericCst, ModuleCst, NumberCst, OpCst,
     PartCst, RegionCst, ResultCst, UseCst,
@@ -28,5 +35,7 @@ pub use pieces::{
 };
 pub use token::read_string;
 
+#[cfg(test)]
+mod module_tests;
 #[cfg(test)]
 mod tests;
