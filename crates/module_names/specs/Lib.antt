@@ -1,0 +1,4 @@
+pub mod ModuleNotes
+pub mod Mentions
+pub mod Numbers
+pub mod Said
