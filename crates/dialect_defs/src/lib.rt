@@ -9,7 +9,11 @@
 mod body;
 mod definition;
 mod entry;
+mod format;
+mod raw_format;
 
 pub use body::{BaseRef, Body, Constraint, VARIABLE_LIMIT, VarId};
 pub use definition::{OpDef, TypeDef};
 pub use entry::{Arity, AttrEntry, ENTRY_LIMIT, Entry, RegionEntry};
+pub use format::{Element, ElementKind, Format, TypeArg};
+pub use raw_format::{RawArg, RawElement, RawKind, RawName};

@@ -1,0 +1,9 @@
+pub mod Bytes
+pub mod Literals
+pub mod Fronts
+pub mod Next
+pub mod Runs
+pub mod Loops
+pub mod Respelled
+pub mod OneToken
+pub mod Answered

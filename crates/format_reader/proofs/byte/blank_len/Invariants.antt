@@ -1,0 +1,11 @@
+use Rattle.std.proofs.Common.{length, ◌-◌, ◌≡◌, ◌+◌, ◌≤◌, drop}
+use Rattle.std.specs.List.{prefix_len}
+use Rattle.format_reader.specs.Tokens.{is_blank}
+use Rattle.format_reader.proofs.byte.blank_len.Given as goal
+
+abbrev pub invariant-loop-at : goal.invariant-loop-at
+invariant-loop-at l =
+    (l.at + prefix_len is_blank (drop l.at l.text) ≡ prefix_len is_blank l.text) × (l.at ≤ length l.text)
+
+abbrev pub decreases-loop-at : goal.decreases-loop-at
+decreases-loop-at l = length l.text - l.at

@@ -1,0 +1,17 @@
+use Rattle.format_reader.proofs.Runs.{both-first, both-ok, both-second, exit}
+use Rattle.format_reader.proofs.read.branch_items.Goals as goal
+
+pub returns-in_err-expect : goal.returns-in_err-expect
+returns-in_err-expect c = exit c.from_residual.ensures
+    (both-first c.in_err-expect.ensures)
+
+pub returns-in_err-items : goal.returns-in_err-items
+returns-in_err-items c = exit c.from_residual-in_err-items.ensures
+    (both-second c.in_ok-expect.ensures (both-first c.in_err-items.ensures))
+
+pub returns-in_err-expect-2 : goal.returns-in_err-expect-2
+returns-in_err-expect-2 c = exit c.from_residual-in_err-expect-2.ensures
+    (both-second c.in_ok-expect.ensures (both-second c.in_ok-items.ensures c.in_err-expect-2.ensures))
+
+pub returns : goal.returns
+returns c = both-ok c.in_ok-expect.ensures (both-ok c.in_ok-items.ensures c.in_ok-expect-2.ensures)
