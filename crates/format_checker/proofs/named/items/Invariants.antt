@@ -1,0 +1,10 @@
+use Rattle.std.proofs.Common.{◌≤◌, ◌-◌, length}
+use Rattle.format_checker.specs.Named.{named_item}
+use Rattle.format_checker.proofs.Naming.{Resolved}
+use Rattle.format_checker.proofs.named.items.Given as goal
+
+abbrev pub invariant-loop-at : goal.invariant-loop-at
+invariant-loop-at l = Resolved (named_item l.op) l.raw l.found l.at × (l.at ≤ length l.raw)
+
+abbrev pub decreases-loop-at : goal.decreases-loop-at
+decreases-loop-at l = length l.raw - l.at

@@ -1,0 +1,11 @@
+pub mod Columns
+pub mod Pieces
+pub mod Fits
+pub mod Decided
+pub mod Named
+pub mod Shown
+pub mod Tables
+pub mod Anchors
+pub mod Meeting
+pub mod Clashes
+pub mod Accepted
