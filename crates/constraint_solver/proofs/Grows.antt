@@ -6,6 +6,8 @@ use Rattle.std.proofs.Common.{length, ap, sym, subst, arith, length-append, appe
 use Rattle.std.proofs.Math.ListN.{get_or-append}
 use Rattle.std.proofs.lemmas.List.{append-nil}
 use Rattle.std.specs.List.{AllByRecursion}
+use Rattle.std.specs.Prelude.{slice_get}
+use Rattle.std.specs.declared.option.Option.TheVariants.{Some}
 use Rattle.attr_value.specs.declared.head.Head.{Head}
 use Rattle.attr_value.specs.declared.head.Head.TheVariants as h
 use Rattle.attr_value.specs.declared.head.ValueId.{ValueId}
@@ -25,6 +27,7 @@ use Rattle.dialect_defs.specs.Goodness.{AreGoodNodes, Good}
 use Rattle.constraint_solver.specs.Definitions.{IsSoundDef, AreSoundDefs, IsInstanceOf}
 use Rattle.constraint_solver.specs.Grown.{Extends}
 use Rattle.constraint_solver.proofs.Filled.{all-at}
+use Rattle.constraint_solver.proofs.Unconstrained.{sound-at}
 
 -- a table is itself with nothing behind it
 pub extends-refl : (vs : List Value) → Extends vs vs
@@ -89,9 +92,14 @@ sound-body-grows {m} {n} {count} {body} longer sound = record {
 -- and so is a definition
 pub sound-def-grows : {m n count : ℕ} {d : TypeDef} → m ≤ n → IsSoundDef m count d
     → IsSoundDef n count d
-sound-def-grows longer sound = record {
-  body = sound-body-grows longer sound.body;
-  params = sound.params;
+sound-def-grows {m} {n} {count} {d} longer sound = record {
+  either = elim sound.either [
+    | inl body ↦ inl (record {
+      body = sound-body-grows longer body.body;
+      params = body.params;
+    })
+    | inr free ↦ inr free
+  ];
 }
 
 each-sound-grows : (m n count : ℕ) (types : List TypeDef) → m ≤ n
@@ -138,19 +146,19 @@ module _ (n count : ℕ) (vs ws : List Value) (agree : AgreeBelow n vs ws) (test
   keeps-agrees v (AllOf members) a x sound kept = kept
   keeps-agrees v (Native i) a x sound kept = kept
 
-  meets-agrees : (body : Body) (a : Assignment) → IsSoundBody n count body
+  meets-agrees : (body : Body) (a : Assignment)
+      → ((v : ℕ) (c : Constraint) → slice_get body.vars v ≡ Some c → IsSoundAt n count v c)
       → MeetsBody vs tests body a → MeetsBody ws tests body a
   meets-agrees body a sound met = record {
     size = met.size;
-    each = λ v c x is has.
-        keeps-agrees v.0 c a x (sound.each v.0 c is) (met.each v c x is has);
+    each = λ v c x is has. keeps-agrees v.0 c a x (sound v.0 c is) (met.each v c x is has);
   }
 
   instance-of-agrees : (d : TypeDef) (kids : List Value) → IsSoundDef n count d
       → IsInstanceOf vs tests d kids → IsInstanceOf ws tests d kids
   instance-of-agrees d kids sound instance = record {
     assignment = instance.assignment;
-    meets = meets-agrees d.body instance.assignment sound.body instance.meets;
+    meets = meets-agrees d.body instance.assignment (sound-at sound) instance.meets;
     params = instance.params;
   }
 
@@ -163,7 +171,7 @@ module _ (n count : ℕ) (vs ws : List Value) (agree : AgreeBelow n vs ws) (test
       defined = instance.defined;
       assignment = instance.assignment;
       meets = meets-agrees instance.definition.body instance.assignment
-          (sound-def-listed sound instance.defined).body instance.meets;
+          (sound-at (sound-def-listed sound instance.defined)) instance.meets;
       params = instance.params;
     }
 
@@ -196,14 +204,14 @@ pub meets-grows : {old new : List Value} {count : ℕ} {tests : Tests} {body : B
     {a : Assignment} → Extends old new → IsSoundBody (length old) count body
     → MeetsBody old tests body a → MeetsBody new tests body a
 meets-grows {old} {new} {count} {tests} {body} {a} e sound met =
-    meets-agrees (length old) count old new (agree-grown e) tests body a sound met
+    meets-agrees (length old) count old new (agree-grown e) tests body a sound.each met
 
 -- and did before
 pub meets-shrinks : {old new : List Value} {count : ℕ} {tests : Tests} {body : Body}
     {a : Assignment} → Extends old new → IsSoundBody (length old) count body
     → MeetsBody new tests body a → MeetsBody old tests body a
 meets-shrinks {old} {new} {count} {tests} {body} {a} e sound met =
-    meets-agrees (length old) count new old (agree-sym (agree-grown e)) tests body a sound met
+    meets-agrees (length old) count new old (agree-sym (agree-grown e)) tests body a sound.each met
 
 -- an instance of a sound definition stays one
 pub instance-of-grows : {old new : List Value} {count : ℕ} {tests : Tests} {d : TypeDef}

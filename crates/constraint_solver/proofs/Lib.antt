@@ -7,4 +7,5 @@ pub mod Settled
 pub mod Found
 pub mod Goods
 pub mod Instances
+pub mod Unconstrained
 pub mod Grows

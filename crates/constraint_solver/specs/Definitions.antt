@@ -1,23 +1,42 @@
 -- What `good_head` and `is_instance` are given, and when a value is an instance of one definition.
 --
---   IsSoundDef len count d                    a body is sound, and the parameters are in it
---   AreSoundDefs len count types              bodies are sound, and parameters are in their bodies
+--   HasSoundBody len count d                  a body is sound, and the parameters are in it
+--   IsUnconstrained d                         any values are parameters of a definition, as many as
+--                                             it has
+--   IsSoundDef len count d                    one or the other
+--   AreSoundDefs len count types              it is so of each definition
 --   HasGoodKids values tests types v          the kids of a value are good
 --   IsInstanceOf values tests d kids          some assignment of this definition gives its
 --                                             parameters the kids
 --   IsOnlyDefinition types is_type name d     the list has no definition of the kind and name but d
-use Rattle.std.specs.Prelude.{◌≡◌, ℕ, Bool, List, length}
+use Rattle.std.specs.Prelude.{◌≡◌, ◌⊎◌, ℕ, Bool, List, length, slice_get}
 use Rattle.std.specs.List.{AllByRecursion}
+use Rattle.std.specs.declared.option.Option.TheVariants.{Some}
 use Rattle.attr_value.specs.Values.{Value, list_of}
+use Rattle.dialect_defs.specs.declared.body.Constraint.{Constraint}
+use Rattle.dialect_defs.specs.declared.body.Constraint.TheVariants.{Any}
 use Rattle.dialect_defs.specs.declared.definition.TypeDef.{TypeDef}
+use Rattle.dialect_defs.specs.declared.entry.Entry.{Entry}
 use Rattle.dialect_defs.specs.Assignments.{Tests, Assignment, HaveEach, MeetsBody}
 use Rattle.dialect_defs.specs.Bodies.{AreBelow, IsSoundBody}
 use Rattle.dialect_defs.specs.Goodness.{Good, IsDefinedAs, vars_of}
 
 -- the body of a definition is sound, and the parameters are values of variables of it
-pub record IsSoundDef (len count : ℕ) (d : TypeDef) : Type 0 where
+pub record HasSoundBody (len count : ℕ) (d : TypeDef) : Type 0 where
   pub body : IsSoundBody len count d.body
   pub params : AreBelow (length d.body.vars) (vars_of d.params)
+
+-- The body of a definition has as many variables as there are parameters, each parameter is the
+-- variable of its own number, from 0, and no variable keeps to anything.
+pub record IsUnconstrained (d : TypeDef) : Type 0 where
+  pub many : length d.body.vars ≡ length d.params
+  pub own : (i : ℕ) (param : Entry) → slice_get d.params i ≡ Some param → param.var.0 ≡ i
+  pub free : (v : ℕ) (c : Constraint) → slice_get d.body.vars v ≡ Some c → c ≡ Any
+
+-- a definition that instances can be asked of: its body is sound, or keeps to nothing and may be
+-- of any length
+pub record IsSoundDef (len count : ℕ) (d : TypeDef) : Type 0 where
+  pub either : HasSoundBody len count d ⊎ IsUnconstrained d
 
 -- each definition of a list is sound
 pub record AreSoundDefs (len count : ℕ) (types : List TypeDef) : Type 0 where

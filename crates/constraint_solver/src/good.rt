@@ -5,11 +5,12 @@ ghost use Rattle.attr_value.specs.Ids.{at, kids_at, AreKnown};
 ghost use Rattle.attr_value.specs.Values.{list_of};
 ghost use Rattle.dialect_defs.specs.Goodness.{Good, IsDefined, IsInstance};
 ghost use Rattle.native_predicate.specs.Lists.{tests, count};
-ghost use Rattle.constraint_solver.specs.Definitions.{IsSoundDef, AreSoundDefs, HasGoodKids};
-ghost use Rattle.constraint_solver.specs.Definitions.{IsInstanceOf};
+ghost use Rattle.constraint_solver.specs.Definitions.{HasSoundBody, IsSoundDef, AreSoundDefs};
+ghost use Rattle.constraint_solver.specs.Definitions.{HasGoodKids, IsInstanceOf};
 
 use crate::assign::{assign_params, empty_slots};
 use crate::search::solve_below;
+use crate::sound::is_unconstrained;
 use attr_uniquer::Uniquer;
 use attr_value::{DEPTH_LIMIT, Head, Text, ValueId};
 use dialect_defs::TypeDef;
@@ -19,9 +20,23 @@ use native_predicate::Natives;
 /// some assignment that meets the definition's body gives each parameter's variable the kid at its
 /// place (`IsInstanceOf` in `specs/Definitions.antt`). It doesn't ask whether the kids are good,
 /// nor how deep a value of them nests, which `good_head` tests. The body has at most
-/// `VARIABLE_LIMIT` variables, as `is_sound_def` tests. It takes no memory.
+/// `VARIABLE_LIMIT` variables, or the definition is unconstrained and its kids are counted, as
+/// `is_sound_def` tests. It takes no memory.
 pub fn is_instance_of(d: &TypeDef, natives: &Natives, u: &Uniquer, kids: &[ValueId]) -> bool
     requires def { IsSoundDef (length u.now) (count natives.now) d.now }
+    requires kids { AreKnown (length u.now) kids.now }
+    ensures { IsTrue result ↔ IsInstanceOf u.now (tests property natives.now) d.now
+        (list_of (kids_at u.now kids.now)) }
+{
+    if is_unconstrained(d) {
+        return d.params.as_slice().len() == kids.len();
+    }
+    meets_with(d, natives, u, kids)
+}
+
+/// Whether some assignment that meets a definition's body gives the parameters these values.
+fn meets_with(d: &TypeDef, natives: &Natives, u: &Uniquer, kids: &[ValueId]) -> bool
+    requires def { HasSoundBody (length u.now) (count natives.now) d.now }
     requires kids { AreKnown (length u.now) kids.now }
     ensures { IsTrue result ↔ IsInstanceOf u.now (tests property natives.now) d.now
         (list_of (kids_at u.now kids.now)) }

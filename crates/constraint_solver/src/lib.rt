@@ -17,7 +17,9 @@ mod sound;
 pub use assignment::Assignment;
 pub use good::{good_head, is_defined_as, is_instance, is_instance_of};
 pub use search::solve;
-pub use sound::{are_below, are_roots, are_sound_defs, is_sound_body, is_sound_def};
+pub use sound::{
+    are_below, are_roots, are_sound_defs, is_sound_body, is_sound_def, is_unconstrained,
+};
 
 #[cfg(test)]
 mod tests;

@@ -1,9 +1,13 @@
 //! Tests of what the search asks for.
 
-ghost use Rattle.std.specs.Prelude.{◌↔◌, IsTrue};
+ghost use Rattle.std.specs.Prelude.{◌≡◌, ◌↔◌, ℕ, IsTrue, Some, slice_get};
+ghost use Rattle.dialect_defs.specs.declared.body.Constraint.{Constraint as Kind};
+ghost use Rattle.dialect_defs.specs.declared.body.Constraint.TheVariants.{Any};
+ghost use Rattle.dialect_defs.specs.declared.entry.Entry.{Entry as Param};
 ghost use Rattle.dialect_defs.specs.Bodies.{AreBelow, IsSoundAt, IsSoundBody};
 ghost use Rattle.dialect_defs.specs.Goodness.{vars_of};
-ghost use Rattle.constraint_solver.specs.Definitions.{IsSoundDef, AreSoundDefs};
+ghost use Rattle.constraint_solver.specs.Definitions.{HasSoundBody, IsUnconstrained, IsSoundDef};
+ghost use Rattle.constraint_solver.specs.Definitions.{AreSoundDefs};
 ghost use Rattle.constraint_solver.specs.Roots.{AreRoots};
 
 use attr_value::ValueId;
@@ -80,10 +84,9 @@ fn are_params_below(n: usize, params: &[Entry]) -> bool
     true
 }
 
-/// Whether `is_instance_of` takes a definition, over a table of `len` values and with `count`
-/// predicates: its body is sound, and the parameters' variables are in it. It takes no memory.
-pub fn is_sound_def(d: &TypeDef, len: usize, count: usize) -> bool
-    ensures { IsTrue result ↔ IsSoundDef len count d.now }
+/// Whether a definition's body is sound, and the parameters' variables are in it.
+fn has_sound_body(d: &TypeDef, len: usize, count: usize) -> bool
+    ensures { IsTrue result ↔ HasSoundBody len count d.now }
 {
     if !is_sound_body(&d.body, len, count) {
         return false;
@@ -91,9 +94,53 @@ pub fn is_sound_def(d: &TypeDef, len: usize, count: usize) -> bool
     are_params_below(d.body.vars.as_slice().len(), d.params.as_slice())
 }
 
+/// Whether each parameter is the variable of its own number.
+fn are_own(params: &[Entry]) -> bool
+    ensures { IsTrue result ↔ ((i : ℕ) (param : Param) → slice_get params.now i ≡ Some param
+        → param.var.0 ≡ i) }
+{
+    for (i, param) in params.iter().enumerate() {
+        if param.var.0 != i {
+            return false;
+        }
+    }
+    true
+}
+
+/// Whether no variable keeps to anything.
+fn are_free(vars: &[Constraint]) -> bool
+    ensures { IsTrue result ↔ ((v : ℕ) (c : Kind) → slice_get vars.now v ≡ Some c → c ≡ Any) }
+{
+    for constraint in vars {
+        let Constraint::Any = constraint else {
+            return false;
+        };
+    }
+    true
+}
+
+/// Whether any values are parameters of a definition, as many as it has: each parameter is a
+/// variable of its own, in order, and none keeps to anything. There may be more than
+/// [`VARIABLE_LIMIT`]. It takes no memory.
+pub fn is_unconstrained(d: &TypeDef) -> bool
+    ensures { IsTrue result ↔ IsUnconstrained d.now }
+{
+    let vars = d.body.vars.as_slice();
+    let params = d.params.as_slice();
+    vars.len() == params.len() && are_free(vars) && are_own(params)
+}
+
+/// Whether `is_instance_of` takes a definition, over a table of `len` values and with `count`
+/// predicates: its body is sound, and the parameters' variables are in it; or it is unconstrained.
+/// It takes no memory.
+pub fn is_sound_def(d: &TypeDef, len: usize, count: usize) -> bool
+    ensures { IsTrue result ↔ IsSoundDef len count d.now }
+{
+    has_sound_body(d, len, count) || is_unconstrained(d)
+}
+
 /// Whether `good_head` and `is_instance` take some definitions, over a table of `len` values and
-/// with `count` predicates: their bodies are sound, and the parameters' variables are in them. It
-/// takes no memory.
+/// with `count` predicates: `is_instance_of` takes each. It takes no memory.
 pub fn are_sound_defs(types: &[TypeDef], len: usize, count: usize) -> bool
     ensures { IsTrue result ↔ AreSoundDefs len count types.now }
 {

@@ -338,3 +338,43 @@ fn an_instance_is_of_a_name_and_of_a_definition(rt: HostRuntime) -> Result<(), F
     }
     Ok(())
 }
+
+/// A definition with so many parameters, none of which keeps to anything.
+fn unconstrained(alloc: Global, count: usize) -> Result<TypeDef, AllocError> {
+    let mut vars = List::new(alloc);
+    let mut params = List::new(alloc);
+    for v in 0..count {
+        vars.push(Constraint::Any)?;
+        params.push(Entry {
+            name: None,
+            arity: Arity::Single,
+            var: VarId(v),
+        })?;
+    }
+    Ok(TypeDef {
+        is_type: true,
+        name: Text::from_slice(alloc, b"t.wide")?,
+        body: Body { vars },
+        params,
+    })
+}
+
+/// Whether one value is the parameter of an instance of such a definition.
+fn takes_one(rt: &impl Abort, alloc: Global, count: usize) -> Result<bool, AllocError> {
+    let mut u = Uniquer::new(alloc);
+    let kids = [integer(&mut u, 8)?];
+    let d = unconstrained(alloc, count)?;
+    let natives = Natives::new(Vec::new(alloc));
+    let (len, count) = (u.len(), natives.len());
+    assert!(rt; is_unconstrained(&d));
+    assert!(rt; is_sound_def(&d, len, count));
+    Ok(is_instance_of(&d, &natives, &u, &kids))
+}
+
+#[test]
+fn kids_of_an_unconstrained_definition_are_counted(rt: HostRuntime) -> Result<(), Fail> {
+    for (count, want) in [(0, false), (1, true), (2, false), (65, false)] {
+        assert_eq!(rt; takes_one(&rt, rt.alloc(), count)?, want);
+    }
+    Ok(())
+}
