@@ -35,6 +35,10 @@ module _ (values : List Value) (d : OpDef) (o : Operation) where
   InRegions a = RegionsHave a d.regions o.regions
 
 module _ (values : List Value) (d : OpDef) (o : Operation) (s0 s1 s2 s3 : Slots) where
+  -- another number of successors refuses the whole
+  pub successors-refuse : (o.successors ≡ length d.successors → ⊥) → Refuses values s0 (HasParts d o)
+  successors-refuse differ = record { none = λ a w has. differ has.successors }
+
   -- so do operands that are refused
   pub operands-refuse : Refuses values s0 (Operands values d o)
       → Refuses values s0 (HasParts d o)

@@ -32,7 +32,7 @@ front-region a entry blocks more same have = record {
   args = front-args a entry.args blocks more same have.args;
 }
 
-front-regions : (a : Assignment) (entries : List RegionEntry) (rs ss : List (List (List Value)))
+pub front-regions : (a : Assignment) (entries : List RegionEntry) (rs ss : List (List (List Value)))
     → SameFronts rs ss → RegionsHave a entries rs → RegionsHave a entries ss
 front-regions a [] [] [] same have = tt
 front-regions a (e ∷ es) (r ∷ rs) (s ∷ ss) same have =
@@ -48,7 +48,7 @@ front-sym (x ∷ xs) (y ∷ ys) same = (sym same.0, sym same.1)
 front-sym [] (y ∷ ys) same = absurd same
 front-sym (x ∷ xs) [] same = absurd same
 
-fronts-sym : (rs ss : List (List (List Value))) → SameFronts rs ss → SameFronts ss rs
+pub fronts-sym : (rs ss : List (List (List Value))) → SameFronts rs ss → SameFronts ss rs
 fronts-sym [] [] same = tt
 fronts-sym (r ∷ rs) (s ∷ ss) same = (front-sym r s same.0, fronts-sym rs ss same.1)
 fronts-sym [] (s ∷ ss) same = absurd same

@@ -4,7 +4,10 @@ pub mod Found
 pub mod Walks
 pub mod PartSteps
 pub mod RegionSteps
+pub mod ListedSteps
 pub mod RootLists
 pub mod AllParts
 pub mod Judging
 pub mod Fronts
+pub mod Shown
+pub mod Grows

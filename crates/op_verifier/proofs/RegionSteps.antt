@@ -347,7 +347,7 @@ regions-length m c values (x ∷ xs) no_regions are = absurd are
 regions-length m c values (x ∷ xs) (region blocks rs) are =
     ap suc (regions-length m (behind_blocks (past_region c) blocks) values xs rs are.2)
 
-regions-have-length : (a : Assignment) (entries : List RegionEntry)
+pub regions-have-length : (a : Assignment) (entries : List RegionEntry)
     (seen : List (List (List Value))) → RegionsHave a entries seen → length entries ≡ length seen
 regions-have-length a [] [] h = refl
 regions-have-length a (e ∷ es) (x ∷ xs) h = ap suc (regions-have-length a es xs h.1)

@@ -4,3 +4,4 @@ pub mod Meets
 pub mod Asked
 pub mod Parts
 pub mod Types
+pub mod Views

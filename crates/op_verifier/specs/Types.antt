@@ -1,8 +1,6 @@
 -- The types of some values.
 --
 --   ids_of types     the ids of the types, in order
---
--- Inside: no public clause rests on this.
 use Rattle.std.specs.Prelude.{List, map}
 use Rattle.attr_value.specs.declared.head.ValueId.{ValueId}
 use Rattle.op_verifier.specs.declared.operands.Types.{Types}

@@ -5,15 +5,12 @@ ghost use Rattle.std.specs.List.{zip};
 ghost use Rattle.std.specs.Ordering.{nat_cmp};
 ghost use Rattle.std.specs.Cmp.Lexicographic.{slice_cmp};
 ghost use Rattle.attr_value.specs.Heads.{Ascend};
-ghost use Rattle.attr_value.specs.Ids.{AreKnown};
 ghost use Rattle.dialect_defs.specs.Operations.{attr_at, given_sizes, sizes_of_head};
-ghost use Rattle.ir_store.specs.Named.{AttrsAreRight};
-ghost use Rattle.ir_store.specs.Store.{head_of};
-ghost use Rattle.op_verifier.specs.Seen.{attrs_seen};
+ghost use Rattle.op_verifier.specs.Views.{IsKnownView, view_attrs};
 
+use crate::view::OpView;
 use attr_uniquer::Uniquer;
 use attr_value::{Head, Text, ValueId};
-use ir_store::OpRow;
 use std::cmp::Ordering;
 
 /// How a key compares with another, by bytes.
@@ -36,11 +33,12 @@ fn id_of(keys: &[Text], values: &[ValueId], key: &[u8]) -> Option<ValueId>
 }
 
 /// The value of the attribute of a key, if the operation has one.
-pub(crate) fn attribute(row: &OpRow, key: &[u8]) -> Option<ValueId>
-    requires { AttrsAreRight (head_of row.now) }
-    ensures { result ≡ attr_at (zip row.now.keys row.now.values) key.now }
+pub(crate) fn attribute(op: &OpView, key: &[u8]) -> Option<ValueId>
+    requires ascend { Ascend op.now.keys.now }
+    requires counts { length op.now.values.now ≡ length op.now.keys.now }
+    ensures { result ≡ attr_at (zip op.now.keys.now op.now.values.now) key.now }
 {
-    id_of(row.keys.as_slice(), row.values.as_slice(), key)
+    id_of(op.keys, op.values, key)
 }
 
 /// The numbers of a dense array of integers of 32 bits.
@@ -59,13 +57,11 @@ fn sizes_of(head: &Head) -> Option<&[i64]>
 
 /// The sizes that the attribute of a key gives. It does where it is a dense array of integers of
 /// 32 bits.
-pub(crate) fn sizes_given<'u>(u: &'u Uniquer, row: &OpRow, key: &[u8]) -> Option<&'u [i64]>
-    requires attrs { AttrsAreRight (head_of row.now) }
-    requires known { AreKnown (length u.now) row.now.values }
-    ensures { option_copied result ≡
-        given_sizes (attr_at (attrs_seen u.now row.now.keys row.now.values) key.now) }
+pub(crate) fn sizes_given<'u>(u: &'u Uniquer, op: &OpView, key: &[u8]) -> Option<&'u [i64]>
+    requires { IsKnownView (length u.now) op.now }
+    ensures { option_copied result ≡ given_sizes (attr_at (view_attrs u.now op.now) key.now) }
 {
-    let id = attribute(row, key)?;
+    let id = attribute(op, key)?;
     let (head, _) = u.view(id);
     sizes_of(head)
 }

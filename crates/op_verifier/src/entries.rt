@@ -7,19 +7,18 @@ ghost use Rattle.attr_value.specs.Ids.{AreKnown};
 ghost use Rattle.dialect_defs.specs.Assignments.{Has};
 ghost use Rattle.dialect_defs.specs.Operations.{EntriesHave, AttrHas, attr_at};
 ghost use Rattle.dialect_defs.specs.Segments.{parts};
-ghost use Rattle.ir_store.specs.Named.{AttrsAreRight};
-ghost use Rattle.ir_store.specs.Store.{head_of};
 ghost use Rattle.op_verifier.specs.Asked.{Asked};
 ghost use Rattle.op_verifier.specs.Parts.{HasSegments};
-ghost use Rattle.op_verifier.specs.Seen.{values_at, attrs_seen};
+ghost use Rattle.op_verifier.specs.Seen.{values_at};
 ghost use Rattle.op_verifier.specs.Sound.{EntriesAreBelow, AttrsAreBelow};
 ghost use Rattle.op_verifier.specs.Types.{ids_of};
+ghost use Rattle.op_verifier.specs.Views.{IsKnownView, view_attrs};
 
 use crate::attrs::attribute;
 use crate::operands::Types;
+use crate::view::OpView;
 use crate::wanted::Wanted;
 use dialect_defs::{AttrEntry, ENTRY_LIMIT, Entry, VarId};
-use ir_store::OpRow;
 use segment_match::sizes;
 
 impl Wanted<'_> {
@@ -84,15 +83,14 @@ impl Wanted<'_> {
     }
 
     /// Asks an attribute's value of its entry's variable. One that is missing has to be optional.
-    fn ask_attr(&mut self, entry: &AttrEntry, row: &OpRow) -> bool
+    fn ask_attr(&mut self, entry: &AttrEntry, op: &OpView) -> bool
         requires var { entry.now.var.0 < length self.old.slots.items }
-        requires attrs { AttrsAreRight (head_of row.now) }
-        requires known { AreKnown (length self.old.u.now) row.now.values }
+        requires op { IsKnownView (length self.old.u.now) op.now }
         ensures { Asked self.old self.new result
-            (λ a. AttrHas a entry.now (attr_at
-            (attrs_seen self.old.u.now row.now.keys row.now.values) entry.now.name)) }
+            (λ a. AttrHas a entry.now
+            (attr_at (view_attrs self.old.u.now op.now) entry.now.name)) }
     {
-        match attribute(row, entry.name.bytes()) {
+        match attribute(op, entry.name.bytes()) {
             Some(id) => self.ask(entry.var, id),
             None => entry.optional,
         }
@@ -100,17 +98,15 @@ impl Wanted<'_> {
 
     /// Asks each attribute's value of its entry's variable. Those that are missing have to be
     /// optional.
-    pub(crate) fn ask_attrs(&mut self, entries: &[AttrEntry], row: &OpRow) -> bool
+    pub(crate) fn ask_attrs(&mut self, entries: &[AttrEntry], op: &OpView) -> bool
         requires vars { AttrsAreBelow (length self.old.slots.items) entries.now }
-        requires attrs { AttrsAreRight (head_of row.now) }
-        requires known { AreKnown (length self.old.u.now) row.now.values }
+        requires op { IsKnownView (length self.old.u.now) op.now }
         ensures { Asked self.old self.new result
-            (λ a. AllByRecursion (λ entry. AttrHas a entry (attr_at
-            (attrs_seen self.old.u.now row.now.keys row.now.values) entry.name))
-            entries.now) }
+            (λ a. AllByRecursion (λ entry. AttrHas a entry
+            (attr_at (view_attrs self.old.u.now op.now) entry.name)) entries.now) }
     {
         for entry in entries {
-            if !self.ask_attr(entry, row) {
+            if !self.ask_attr(entry, op) {
                 return false;
             }
         }

@@ -10,16 +10,20 @@
 
 mod attrs;
 mod entries;
+mod listed;
 mod operands;
 mod operations;
 mod parts;
 mod regions;
 mod roots;
 mod sound;
+mod view;
 mod wanted;
 
-pub use operations::{OpPlace, meets, verify};
+pub use operands::Types;
+pub use operations::{OpPlace, meets, meets_definition, verify};
 pub use sound::{are_known, are_sound_ops, can_judge, has_ids};
+pub use view::{OpRegions, OpView};
 
 #[cfg(test)]
 mod tests;

@@ -1,4 +1,4 @@
-//! The types of an operation's operands.
+//! The types of some values, as of an operation's operands.
 
 ghost use Rattle.std.specs.Prelude.{◌≡◌, ◌<◌, length, slice_get, map};
 ghost use Rattle.op_verifier.specs.Seen.{type_in};
@@ -9,7 +9,7 @@ use ir_store::Store;
 
 /// The types of some values, as a list or by the numbers of the values in a module.
 #[derive(Clone, Copy, Drop)]
-pub(crate) enum Types<'a> {
+pub enum Types<'a> {
     Listed(&'a [ValueId]),
     Stored(&'a Store, &'a [usize]),
 }

@@ -13,8 +13,10 @@ ghost use Rattle.op_verifier.specs.Meets.{MeetsNamed, MeetsStored, AllMeet, IsFi
 ghost use Rattle.op_verifier.specs.Seen.{HasIds, operation_seen};
 ghost use Rattle.op_verifier.specs.Sound.{IsSoundOp, AreSoundOps};
 ghost use Rattle.op_verifier.specs.Types.{ids_of};
+ghost use Rattle.op_verifier.specs.Views.{IsKnownView, IsShown};
 
 use crate::operands::Types;
+use crate::view::{OpRegions, OpView};
 use crate::wanted::Wanted;
 use attr_uniquer::Uniquer;
 use attr_value::ValueId;
@@ -30,7 +32,25 @@ pub struct OpPlace {
     pub place: u32,
 }
 
-/// Whether an operation meets a definition, where its operands have these types.
+/// Whether an operation meets a definition, whether or not it stands in a module. It takes no
+/// memory.
+///
+/// Of the regions the numbers of blocks and the arguments of the first blocks alone are looked at.
+pub fn meets_definition(def: &OpDef, natives: &Natives, u: &Uniquer, op: &OpView) -> bool
+    requires def { IsSoundOp (length u.now) (count natives.now) def.now }
+    requires op { IsKnownView (length u.now) op.now }
+    ensures { (o : Operation) → IsShown u.now op.now o →
+        (IsTrue result ↔ MeetsDefinition u.now (tests property natives.now) def.now o) }
+{
+    let mut wanted = Wanted::new(u, def.body.vars.as_slice().len());
+    if !wanted.ask_parts(def, op) {
+        return false;
+    }
+    let roots = wanted.roots();
+    solve(u, natives, &def.body, roots.as_slice()).is_some()
+}
+
+/// Whether an operation of a module meets a definition, where its operands have these types.
 fn judge(
     def: &OpDef,
     natives: &Natives,
@@ -47,12 +67,16 @@ fn judge(
         ↔ MeetsDefinition u.now (tests property natives.now) def.now
         (operation_seen u.now (ids_of types.now) x)) }
 {
-    let mut wanted = Wanted::new(u, def.body.vars.as_slice().len());
-    if !wanted.ask_parts(def, store, op, types) {
-        return false;
-    }
-    let roots = wanted.roots();
-    solve(u, natives, &def.body, roots.as_slice()).is_some()
+    let row = store.op(op);
+    let view = OpView {
+        operands: *types,
+        results: row.results.as_slice(),
+        keys: row.keys.as_slice(),
+        values: row.values.as_slice(),
+        successors: row.successors.len(),
+        regions: OpRegions::Stored(store, op),
+    };
+    meets_definition(def, natives, u, &view)
 }
 
 /// The definition that an operation names.

@@ -1,6 +1,7 @@
 //! What regions ask of variables.
 
 ghost use Rattle.std.specs.Prelude.{◌≡◌, ◌<◌, ◌+◌, ℕ, ◌↔◌, length, IsTrue, false, IfSome, Some};
+ghost use Rattle.std.specs.Prelude.{List};
 ghost use Rattle.std.specs.Option.{ForSome};
 ghost use Rattle.attr_value.specs.Ids.{AreKnown};
 ghost use Rattle.dialect_defs.specs.Assignments.{HaveEach};
@@ -11,12 +12,15 @@ ghost use Rattle.ir_store.specs.Named.{op_at, region_at, AreBlocks};
 ghost use Rattle.ir_store.specs.Numbering.{Numbers, ops_in, regions_in};
 ghost use Rattle.ir_store.specs.Store.{OpName};
 ghost use Rattle.attr_value.specs.declared.head.ValueId.{ValueId as Id};
+ghost use Rattle.attr_value.specs.Values.{Value};
 ghost use Rattle.op_verifier.specs.Asked.{Asked};
 ghost use Rattle.op_verifier.specs.Parts.{types_from};
 ghost use Rattle.op_verifier.specs.Seen.{values_at, blocks_seen, regions_seen};
 ghost use Rattle.op_verifier.specs.Sound.{RegionsAreBelow};
+ghost use Rattle.op_verifier.specs.Views.{AreKnownRegions, HasFront};
 
 use crate::operands::type_of;
+use crate::view::OpRegions;
 use crate::wanted::Wanted;
 use dialect_defs::{RegionEntry, VarId};
 use ir_store::{BlockId, OpId, RegionId, Store};
@@ -82,9 +86,9 @@ impl Wanted<'_> {
         }
     }
 
-    /// Asks that there are as many regions as entries, and of each region what the entry at its
-    /// place says.
-    pub(crate) fn ask_regions(&mut self, entries: &[RegionEntry], store: &Store, op: OpId) -> bool
+    /// Asks that there are as many regions of a stored operation as entries, and of each region
+    /// what the entry at its place says.
+    fn ask_stored(&mut self, entries: &[RegionEntry], store: &Store, op: OpId) -> bool
         requires vars { RegionsAreBelow (length self.old.slots.items) entries.now }
         requires known { AreKnown (length self.old.u.now) (types_in store.now) }
         requires op { op.0 < length (ops_in store.now) }
@@ -103,10 +107,24 @@ impl Wanted<'_> {
         }
         true
     }
+
+    /// Asks that there are as many regions as entries, and of each region what the entry at its
+    /// place says.
+    pub(crate) fn ask_regions(&mut self, entries: &[RegionEntry], regions: &OpRegions) -> bool
+        requires vars { RegionsAreBelow (length self.old.slots.items) entries.now }
+        requires known { AreKnownRegions (length self.old.u.now) regions.now }
+        ensures { (rs : List (List (List Value))) → HasFront self.old.u.now regions.now rs →
+            Asked self.old self.new result (λ a. RegionsHave a entries.now rs) }
+    {
+        match regions {
+            OpRegions::Listed { counts, args } => self.ask_listed(entries, counts, args),
+            OpRegions::Stored(store, op) => self.ask_stored(entries, store, *op),
+        }
+    }
 }
 
 /// Whether a number of blocks is the declared one, where one is declared.
-fn has_size(size: Option<u32>, count: usize) -> bool
+pub(crate) fn has_size(size: Option<u32>, count: usize) -> bool
     ensures { IsTrue result ↔ IfSome size (λ n. count ≡ n) }
 {
     match size {

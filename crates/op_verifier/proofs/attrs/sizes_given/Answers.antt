@@ -9,13 +9,13 @@ returns-in_err-id c =
     ap option_copied c.from_residual.ensures
     ∙ ap (λ o. given_sizes (value_of c.args.u.now o))
     (sym c.in_err-id.was ∙ c.attribute.ensures)
-    ∙ ap given_sizes (sym (attr_at-attrs_seen c.args.u.now c.args.row.now.keys
-    c.args.row.now.values c.args.key.now))
+    ∙ ap given_sizes (sym (attr_at-attrs_seen c.args.u.now c.args.op.now.keys.now
+    c.args.op.now.values.now c.args.key.now))
 
 pub view-requires : goal.view-requires
 view-requires c =
-    key-known _ c.args.row.now.keys c.args.row.now.values c.args.key.now _
-    c.requires.known (sym c.attribute.ensures ∙ c.in_ok-id.was)
+    key-known _ c.args.op.now.keys.now c.args.op.now.values.now c.args.key.now _
+    c.requires.values (sym c.attribute.ensures ∙ c.in_ok-id.was)
 
 pub returns : goal.returns
 returns c =
@@ -23,5 +23,5 @@ returns c =
     ∙ ap (λ (v : Value). sizes_of_head v.head) (sym c.view.ensures.value)
     ∙ ap (λ o. given_sizes (value_of c.args.u.now o))
     (sym c.in_ok-id.was ∙ c.attribute.ensures)
-    ∙ ap given_sizes (sym (attr_at-attrs_seen c.args.u.now c.args.row.now.keys
-    c.args.row.now.values c.args.key.now))
+    ∙ ap given_sizes (sym (attr_at-attrs_seen c.args.u.now c.args.op.now.keys.now
+    c.args.op.now.values.now c.args.key.now))

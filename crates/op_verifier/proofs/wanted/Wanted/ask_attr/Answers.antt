@@ -7,16 +7,16 @@ use Rattle.op_verifier.proofs.wanted.Wanted.ask_attr.Goals as goal
 
 pub ask-requires-clause-id : goal.ask-requires-clause-id
 ask-requires-clause-id c =
-    key-known _ c.args.row.now.keys c.args.row.now.values c.bytes.result.now _
-    c.requires.known (sym c.attribute.ensures ∙ c.in-Some.is)
+    key-known _ c.args.op.now.keys.now c.args.op.now.values.now c.bytes.result.now _
+    c.requires.op.values (sym c.attribute.ensures ∙ c.in-Some.is)
 
 pub returns-in-Some : goal.returns-in-Some
 returns-in-Some c =
     let values = c.args.self.now.u.now in
     let e =
-    attr_at-attrs_seen values c.args.row.now.keys c.args.row.now.values
+    attr_at-attrs_seen values c.args.op.now.keys.now c.args.op.now.values.now
     c.args.entry.now.name
-    ∙ ap (λ key. value_of values (attr_at (zip c.args.row.now.keys c.args.row.now.values)
+    ∙ ap (λ key. value_of values (attr_at (zip c.args.op.now.keys.now c.args.op.now.values.now)
     key))
     (sym c.bytes.ensures)
     ∙ ap (value_of values) (sym c.attribute.ensures ∙ c.in-Some.is) in
@@ -29,9 +29,9 @@ pub returns-in-None : goal.returns-in-None
 returns-in-None c =
     let values = c.args.self.now.u.now in
     let e =
-    attr_at-attrs_seen values c.args.row.now.keys c.args.row.now.values
+    attr_at-attrs_seen values c.args.op.now.keys.now c.args.op.now.values.now
     c.args.entry.now.name
-    ∙ ap (λ key. value_of values (attr_at (zip c.args.row.now.keys c.args.row.now.values)
+    ∙ ap (λ key. value_of values (attr_at (zip c.args.op.now.keys.now c.args.op.now.values.now)
     key))
     (sym c.bytes.ensures)
     ∙ ap (value_of values) (sym c.attribute.ensures ∙ c.in-None.is) in

@@ -5,7 +5,7 @@ use Rattle.std.specs.List.{AllByRecursion}
 use Rattle.dialect_defs.specs.declared.entry.AttrEntry.{AttrEntry}
 use Rattle.dialect_defs.specs.Assignments.{Assignment}
 use Rattle.dialect_defs.specs.Operations.{AttrHas, attr_at}
-use Rattle.op_verifier.specs.Seen.{attrs_seen}
+use Rattle.op_verifier.specs.Views.{view_attrs}
 use Rattle.op_verifier.proofs.Asking.{rest-step, rest-refused, rest-end, Decides-true}
 use Rattle.op_verifier.proofs.Asking.{Decides-false}
 use Rattle.op_verifier.proofs.Walks.{drop-next, all-get}
@@ -21,7 +21,7 @@ ask_attr-requires-clause-var c =
 pub returns-then-not-ask_attr : goal.returns-then-not-ask_attr
 returns-then-not-ask_attr c =
     let Met : Assignment → AttrEntry → Type 0 = λ a entry. AttrHas a entry (attr_at
-    (attrs_seen c.args.self.now.u.now c.args.row.now.keys c.args.row.now.values) entry.name) in
+    (view_attrs c.args.self.now.u.now c.args.op.now) entry.name) in
     let next = drop-next c.args.entries.now c.loop-entry.entry-index c.entry-item.result
     (slice_get_read c.args.entries.now _ c.loop-entry.entry-index c.entry-item.result
     refl c.loop-entry-test.true c.entry-item.is) in
@@ -35,7 +35,7 @@ returns-then-not-ask_attr c =
 pub loop-entry-preserved : goal.loop-entry-preserved
 loop-entry-preserved c =
     let Met : Assignment → AttrEntry → Type 0 = λ a entry. AttrHas a entry (attr_at
-    (attrs_seen c.args.self.now.u.now c.args.row.now.keys c.args.row.now.values) entry.name) in
+    (view_attrs c.args.self.now.u.now c.args.op.now) entry.name) in
     let next = drop-next c.args.entries.now c.loop-entry.entry-index c.entry-item.result
     (slice_get_read c.args.entries.now _ c.loop-entry.entry-index c.entry-item.result
     refl c.loop-entry-test.true c.entry-item.is) in
@@ -50,7 +50,7 @@ loop-entry-preserved c =
 pub returns : goal.returns
 returns c =
     let Met : Assignment → AttrEntry → Type 0 = λ a entry. AttrHas a entry (attr_at
-    (attrs_seen c.args.self.now.u.now c.args.row.now.keys c.args.row.now.values) entry.name) in
+    (view_attrs c.args.self.now.u.now c.args.op.now) entry.name) in
     let none = drop_of_length-le c.args.entries.now {i = c.loop-entry.entry-index}
     c.loop-entry-test.false in
     record {

@@ -13,6 +13,6 @@ returns c =
       decides = subst
           (λ given. Decides values c.args.self.now.slots.items c.ask_segments.new.self.slots.items
           c.ask_segments.result (λ a. HasSegments a c.args.entries.now
-          (values_at values (ids_of c.args.types.now)) given))
+          (values_at values (ids_of c.args.op.now.operands)) given))
           c.sizes_given-given.ensures c.ask_segments.ensures.decides;
     }

@@ -2,7 +2,7 @@ use Rattle.std.proofs.Common.{◌≡◌, length}
 use Rattle.ir_store.specs.Named.{op_at}
 use Rattle.std.specs.Option.{ForSome}
 use Rattle.op_verifier.proofs.RegionSteps.{RegionsLeft}
-use Rattle.op_verifier.proofs.wanted.Wanted.ask_regions.Given as goal
+use Rattle.op_verifier.proofs.wanted.Wanted.ask_stored.Given as goal
 
 abbrev pub invariant-loop-i : goal.invariant-loop-i
 invariant-loop-i l = record {
