@@ -19,6 +19,7 @@ use Rattle.value_meaning.specs.Faults.{HasGood, IsFault, Means}
 use Rattle.value_meaning.specs.Judging.{basis, Basis, ByEach, CanJudge, IsIdOf, IsJudged, IsReady}
 use Rattle.value_meaning.specs.Judging.{with_table}
 use Rattle.value_meaning.specs.Meaning.{seen}
+use Rattle.value_meaning.proofs.Faultless.{means-faultless}
 
 module _ (table : List Value) (tests : Tests) (count : ℕ) (types : List TypeDef)
     (aliases : Aliases) (defs : AreSoundDefs (length table) count types)
@@ -69,3 +70,9 @@ module _ (table : List Value) (tests : Tests) (count : ℕ) (types : List TypeDe
         let some = subst (λ v. IfSome v (IsIdOf (with_table all table)
         (seen (alias_values table aliases) c).value new)) is it.judges.some in
         record { spells = some.spells; good = some.good }
+
+    -- a tree with a fault means no value
+    pub answered-unmeant : (f : Fault) → j.first ≡ Some f → (v : Value)
+        → Means table tests types (alias_values table aliases) c v → ⊥
+    answered-unmeant f is v means =
+        means-faultless defs good c v means f (answered-first (Some f) is).0

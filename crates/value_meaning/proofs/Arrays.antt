@@ -71,7 +71,7 @@ module _ (g : Ground) (width : ℕ) where
       let never : h.Dense width ns ≡ h.Int kind = ap (λ x. x.head) is ∙ int in absurd (cc)
 
   -- it isn't good where dense arrays don't have the width
-  dense-bad : (o : Option (List ℤ)) → is_dense_width width ≡ false
+  pub dense-bad : (o : Option (List ℤ)) → is_dense_width width ≡ false
       → HasGood g.table g.tests g.types (spelled_by o) → ⊥
   dense-bad None other good = let never : None ≡ Some good.value = good.is in absurd (cc)
   dense-bad (Some ns) other good =

@@ -8,7 +8,7 @@ use Rattle.std.proofs.lemmas.List.{drop_more}
 use Rattle.grammar.specs.Looks.{decimal}
 use Rattle.ir_lexer.specs.Names.{hexadecimal_value}
 use Rattle.ir_lexer.specs.Spelling.{Text}
-use Rattle.value_meaning.specs.Spelled.{hexadecimal}
+use Rattle.grammar.specs.Looks.{hexadecimal}
 
 -- more digits make no smaller number
 pub decimal-grows : (n : ℕ) (t : Text) → n ≤ decimal n t

@@ -35,7 +35,7 @@ use Rattle.value_meaning.proofs.Trees.{seen-entry}
 -- ---- keys that stand twice
 
 -- a cut of a list and one more is at the last, or one of the list
-cut-push : {X : Type 0} (xs front : List X) (last x : X) (after : List X)
+pub cut-push : {X : Type 0} (xs front : List X) (last x : X) (after : List X)
     → xs ++ last ∷ [] ≡ front ++ x ∷ after
     → ((rest : List X) × (xs ≡ front ++ x ∷ rest)) ⊎ ((xs ≡ front) × (last ≡ x))
 cut-push [] [] last x after e = inr (refl, cc)

@@ -58,18 +58,14 @@ module _ (g : Ground) where
       → IsNoBadInteger g (option_map (made_of head) (values_of kids))
   list-other head kids other = made-other (made_of head) (values_of kids) (λ vs. other)
 
-module _ (b : Basis) (table : List Value) (ready : IsReady b table) where
-  abbrev g : Ground
-  g = with_table b table
+-- each alias that is there has a good value
+pub record HaveGoodValues (g : Ground) (al : Aliases) : Type 0 where
+  pub each : (is_type : Bool) (name : Text) (v : Value) → al is_type name ≡ Some v → IsGood g v
 
-  abbrev al : Aliases
-  al = values_at table b.ids
-
+module _ (g : Ground) (al : Aliases) (good : HaveGoodValues g al) where
   -- the value of an alias
   alias-integer : (is_type : Bool) (name : Text) → IsNoBadInteger g (al is_type name)
-  alias-integer is_type name =
-      made-good g (λ (id : ValueId). at table id.0) (b.ids is_type name)
-      (λ id is. ready.good is_type name id is)
+  alias-integer is_type name v kind e int = good.each is_type name v e
 
   -- by the layers of a form
   layer-integer : (r : ValueNode-F ValueNode EntryCst ValueCst)
@@ -116,7 +112,27 @@ module _ (b : Basis) (table : List Value) (ready : IsReady b table) where
       (layer-integer (out-ValueNode node))
 
   -- of a tree
-  pub tree-integer : (c : ValueCst) → IsNoBadInteger g (seen al c).value
-  tree-integer c =
+  pub spelled-integer : (c : ValueCst) → IsNoBadInteger g (seen al c).value
+  spelled-integer c =
       subst (λ (s : Seen). IsNoBadInteger g s.value) (sym (seen-value al c))
       (node-integer (out-ValueCst c).node)
+
+module _ (b : Basis) (table : List Value) (ready : IsReady b table) where
+  -- aliases by the ids of good values have good values
+  pub ready-good : HaveGoodValues (with_table b table) (values_at table b.ids)
+  ready-good = record {
+    each = λ is_type name v is. go is_type name v (b.ids is_type name) refl is;
+  }
+    where
+      go : (is_type : Bool) (name : Text) (v : Value) (o : Option ValueId)
+          → b.ids is_type name ≡ o → option_map (λ id. at table id.0) o ≡ Some v
+          → IsGood (with_table b table) v
+      go is_type name v None is e = absurd (cc)
+      go is_type name v (Some id) is e =
+          let same : at table id.0 ≡ v = cc in
+          subst (IsGood (with_table b table)) same (ready.good is_type name id is)
+
+  -- so no tree spells a bad integer type under these
+  pub tree-integer : (c : ValueCst)
+      → IsNoBadInteger (with_table b table) (seen (values_at table b.ids) c).value
+  tree-integer c = spelled-integer (with_table b table) (values_at table b.ids) ready-good c

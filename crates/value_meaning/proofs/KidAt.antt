@@ -38,7 +38,7 @@ pub lent : {X : Type 0} (xs : List X) (i : ℕ) (x : Bor X) → IsItemAt xs i (S
     → slice_get xs i ≡ Some x.now
 lent xs i x it = slice_get-get_or xs i x.now it.3.0 ∙ ap Some (sym it.1)
 
-not-lent : {X : Type 0} (xs : List X) (i : ℕ) → IsItemAt xs i None → slice_get xs i ≡ None
+pub not-lent : {X : Type 0} (xs : List X) (i : ℕ) → IsItemAt xs i None → slice_get xs i ≡ None
 not-lent xs i it = slice_get_past xs i it.3
 
 module _ (al : Aliases) (node : ValueNode) (i : ℕ) where

@@ -20,6 +20,10 @@ pub mod Folds
 pub mod Trees
 pub mod Joining
 pub mod Integers
+pub mod Clean
+pub mod CleanForms
+pub mod Faultless
+pub mod Meant
 pub mod KidsOf
 pub mod KidAt
 pub mod Growing
@@ -27,7 +31,7 @@ pub mod Mentions
 pub mod Leaves
 pub mod Results
 pub mod Parts
-pub mod Named
+pub mod Placed
 pub mod Dialects
 pub mod Numbers
 pub mod Arrays
@@ -35,3 +39,4 @@ pub mod Forms
 pub mod Listing
 pub mod Answered
 pub mod AliasesKept
+pub mod FaultsGrow

@@ -2,6 +2,7 @@ pub mod Spelled
 pub mod Meaning
 pub mod Faults
 pub mod AliasTable
+pub mod Distinct
 pub mod Gathered
 pub mod Judging
 pub mod Bases
@@ -9,4 +10,5 @@ pub mod Keys
 pub mod Dicts
 pub mod Entered
 pub mod KidsSeen
+pub mod Places
 pub mod Refusals

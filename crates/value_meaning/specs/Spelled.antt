@@ -1,7 +1,6 @@
 -- What the small parts of a value's tree spell: words, numbers, items, dimensions and keys.
 --
 --   word_head w                the head that a word spells, or none
---   number_in digits           the plain number of digits, decimal or behind `0x`
 --   signed_number neg digits   the number, with its minus or without
 --   residue kind n             the number that is kept of n at an integer type, or none
 --   number_head ..             the head of a number of some type, or none
@@ -10,7 +9,7 @@
 --   dim_of kind text           a dimension of a shape of this kind, or none
 --   all_some xs                what each is, where each is something
 --   sorted_entries es          entries by ascending key, or none where a key stands twice
-use Rattle.std.specs.Prelude.{ℕ, ◌+◌, ◌*◌, ◌^◌, Bool, true, false, ◌&&◌, ◌||◌, not, ◌==◌, cond}
+use Rattle.std.specs.Prelude.{ℕ, ◌^◌, Bool, true, false, ◌&&◌, ◌||◌, not, ◌==◌, cond}
 use Rattle.std.specs.Prelude.{List, [], ◌∷◌, drop, ℤ, pos, neg_ℤ, int_le, nat_le, nat_lt}
 use Rattle.std.specs.Prelude.{bytes_eq, codes, if◌then◌else◌, option_map, option_and_then}
 use Rattle.std.specs.declared.option.Option.{Option}
@@ -29,8 +28,7 @@ use Rattle.attr_value.specs.Heads.{text_lt}
 use Rattle.attr_value.specs.Numbers.{lowest, limit, kept}
 use Rattle.attr_value.specs.Values.{Value}
 use Rattle.generic_syntax.specs.declared.cst.ItemCst.{ItemCst}
-use Rattle.grammar.specs.Looks.{decimal, is_integer_word}
-use Rattle.ir_lexer.specs.Names.{hexadecimal_value}
+use Rattle.grammar.specs.Looks.{decimal, is_integer_word, number_in}
 use Rattle.ir_lexer.specs.Spelling.{Text}
 
 -- ---- words
@@ -63,16 +61,6 @@ unfoldable pub word_head : Text → Option Head
 word_head w = cond (is_integer_word w) (Some (h.Int (int_kind_of w))) (looked_up words w)
 
 -- ---- numbers
-
--- the number of hexadecimal digits, behind a number that was spelled before
-abbrev pub hexadecimal : ℕ → Text → ℕ
-hexadecimal n [] = n
-hexadecimal n (b ∷ t) = hexadecimal (n * 16 + hexadecimal_value b) t
-
--- The plain number of digits: hexadecimal where an `x` stands second, else decimal.
-abbrev pub number_in : Text → ℕ
-number_in (a ∷ b ∷ t) = if b == 120 then hexadecimal 0 t else decimal 0 (a ∷ b ∷ t)
-number_in t = decimal 0 t
 
 -- the number, below 0 where a minus stands
 abbrev pub signed_number : Bool → Text → ℤ

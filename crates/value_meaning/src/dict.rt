@@ -19,7 +19,7 @@ pub struct Entry<'a> {
 
 /// Sorts entries by their keys, in bytes. Where a key stands twice, its entries come in any order.
 /// It takes no memory.
-fn sort_by_key(entries: &mut [Entry<'_>])
+pub fn sort_by_key(entries: &mut [Entry<'_>])
     ensures sorted { IfSome (sorted_entries (keyed entries.old))
         (λ sorted. keyed entries.new ≡ sorted) }
     ensures moved { IsPermutation entries.old entries.new }

@@ -2,15 +2,15 @@
 
 ghost use Rattle.std.specs.Prelude.{◌≡◌, min};
 ghost use Rattle.grammar.specs.Looks as look;
-ghost use Rattle.ir_lexer.specs.Names as lexer;
-ghost use Rattle.value_meaning.specs.Spelled as spec;
+
+use ir_lexer::hexadecimal_value;
 
 /// The least number that no integer type has, with a minus or without one.
 pub const TOO_GREAT: u128 = 1 << 64;
 
 /// The number of digits, decimal or hexadecimal behind `0x`, or [`TOO_GREAT`] where it is no less.
 pub fn number_in(digits: &[u8]) -> u128
-    ensures { result ≡ min (spec.number_in digits.now) TOO_GREAT }
+    ensures { result ≡ min (look.number_in digits.now) TOO_GREAT }
 {
     match digits {
         [_, b'x', digits @ ..] => hexadecimal(digits),
@@ -31,23 +31,11 @@ pub fn decimal(digits: &[u8]) -> u128
 
 /// The number of hexadecimal digits, or [`TOO_GREAT`] where it is no less.
 fn hexadecimal(digits: &[u8]) -> u128
-    ensures { result ≡ min (spec.hexadecimal 0 digits.now) TOO_GREAT }
+    ensures { result ≡ min (look.hexadecimal 0 digits.now) TOO_GREAT }
 {
     let mut n = 0;
     for digit in digits {
         n = (n * 16 + u128::from(hexadecimal_value(*digit))).min(TOO_GREAT);
     }
     n
-}
-
-/// The number of a hexadecimal digit, in either case, and 0 of any other byte.
-fn hexadecimal_value(digit: u8) -> u8
-    ensures { result ≡ lexer.hexadecimal_value digit }
-{
-    match digit {
-        b'0'..=b'9' => digit - b'0',
-        b'A'..=b'F' => digit - b'A' + 10,
-        b'a'..=b'f' => digit - b'a' + 10,
-        _ => 0,
-    }
 }

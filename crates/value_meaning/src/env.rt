@@ -5,8 +5,8 @@ ghost use Rattle.std.specs.HashMap.{get};
 ghost use Rattle.std.specs.declared.option.Option.TheVariants.{None, Some};
 ghost use Rattle.value_meaning.specs.AliasTable.{id_of, with_alias};
 
+use crate::definitions::Definitions;
 use attr_value::{Text, ValueId};
-use dialect_defs::TypeDef;
 use indexmap::IndexMap;
 use native_predicate::Natives;
 use std::alloc::{AllocError, Global};
@@ -58,14 +58,18 @@ impl Aliases {
     }
 }
 
-/// Puts an id at a name, in the place of an earlier one.
-fn insert(named: &mut IndexMap<Text, ValueId>, name: Text, id: ValueId) -> Result<(), AllocError>
+/// Puts something at a name, in the place of what was there.
+pub fn insert<V: Drop>(
+    named: &mut IndexMap<Text, V>,
+    name: Text,
+    value: V,
+) -> Result<(), AllocError>
     ensures ok { OnOk result ((other : List ℕ) → get bytes_eq named.new other
-        ≡ cond (bytes_eq name other) (Some id) (get bytes_eq named.old other)) }
+        ≡ cond (bytes_eq name other) (Some value) (get bytes_eq named.old other)) }
     ensures err { OnErr result ((other : List ℕ) →
         get bytes_eq named.new other ≡ get bytes_eq named.old other) }
 {
-    match named.insert(name, id) {
+    match named.insert(name, value) {
         Ok(_) => Ok(()),
         Err(_) => Err(AllocError),
     }
@@ -75,7 +79,7 @@ fn insert(named: &mut IndexMap<Text, ValueId>, name: Text, id: ValueId) -> Resul
 #[derive(Clone, Copy)]
 pub struct Env<'a> {
     pub alloc: Global,
-    pub types: &'a [TypeDef],
+    pub types: &'a Definitions,
     pub natives: &'a Natives,
     pub aliases: &'a Aliases,
 }

@@ -6,6 +6,7 @@
 #![tactic(auto)]
 
 mod code;
+mod definitions;
 mod dense;
 mod dict;
 mod digits;
@@ -21,11 +22,14 @@ mod leaf;
 mod node;
 mod number;
 mod part;
+mod places;
 mod shape;
 mod value;
 mod word;
 
 pub use code::{ALIAS_UNKNOWN, INT_RANGE, KEY_REPEATED, NAME_UNKNOWN, NESTING, PARAMETERS, SYNTAX};
+pub use definitions::{Definitions, have_distinct_names};
+pub use dict::{Entry, sort_by_key};
 pub use env::Aliases;
 pub use keys::KeySet;
 pub use value::{ValueStop, define_alias, value_in};

@@ -11,7 +11,7 @@ ghost use Rattle.first_fault.specs.Firsts.{IsFirst};
 ghost use Rattle.native_predicate.specs.Lists.{tests};
 ghost use Rattle.constraint_solver.specs.Grown.{Extends};
 ghost use Rattle.value_meaning.specs.Bases.{basis_of};
-ghost use Rattle.value_meaning.specs.Faults.{IsFaultOf, IsNamed};
+ghost use Rattle.value_meaning.specs.Faults.{IsFaultOf};
 ghost use Rattle.value_meaning.specs.Judging.{Ground, Judges, JudgesKids, CanJudge};
 ghost use Rattle.value_meaning.specs.Judging.{IsOther, IsOfTypes, IsPart, with_table};
 ghost use Rattle.value_meaning.specs.Meaning.{Mark, made_of, claim_at, measures, names};
@@ -25,8 +25,7 @@ use crate::node::{made, types_fault};
 use crate::shape::dims_of;
 use attr_uniquer::Uniquer;
 use attr_value::{Head, ShapeKind, Text};
-use constraint_solver::{is_defined_as, is_instance};
-use dialect_defs::TypeDef;
+use constraint_solver::is_instance_of;
 use first_fault::{Fault, earlier};
 use std::alloc::{AllocError, Global};
 
@@ -106,18 +105,6 @@ fn parameters_fault(place: u32, is_asked: bool) -> Option<Fault>
     })
 }
 
-/// Whether a definition has this kind and full name.
-fn is_named(types: &[TypeDef], is_type: bool, name: &Text) -> bool
-    ensures { IsTrue result ↔ IsNamed types.now is_type name.now }
-{
-    for d in types {
-        if is_defined_as(d, is_type, name) {
-            return true;
-        }
-    }
-    false
-}
-
 /// The fault of a name that isn't defined, or else of parameters that are those of no instance.
 fn dialect_fault(
     env: &Env,
@@ -140,16 +127,16 @@ fn dialect_fault(
         IsInstance u.now (tests property env.now.natives.now) env.now.types.now is_type name.now
         (list_of (kids_at u.now args.now.ids.items)) → ⊥ }
 {
-    if !is_named(env.types, is_type, name) {
+    let Some(d) = env.types.find(is_type, name) else {
         return Some(Fault {
             place,
             code: NAME_UNKNOWN,
         });
-    }
+    };
     if !args.all_good {
         return None;
     }
-    if is_instance(env.types, env.natives, u, is_type, name, &args.ids) {
+    if is_instance_of(d, env.natives, u, &args.ids) {
         return None;
     }
     Some(Fault {

@@ -1,15 +1,16 @@
-//! The values of trees, their first faults, and keys that stand twice.
+//! The values of trees, their first faults, keys that stand twice, and definitions by their names.
 
 ghost use Rattle.std.specs.Prelude.{◌≤◌, length};
 
 use super::*;
 use attr_uniquer::Uniquer;
-use attr_value::ValueId;
+use attr_value::{List, Text, ValueId};
+use dialect_defs::{Body, TypeDef};
 use first_fault::Fault;
 use generic_syntax::parse_value;
 use ir_lexer::SliceTokens;
 use native_predicate::Natives;
-use std::alloc::Global;
+use std::alloc::{AllocError, Global};
 use std::test::Fail;
 
 // A text, and the place and the rule of its first fault; 0 and 0 where it has none.
@@ -35,7 +36,10 @@ fn value_of(alloc: Global, u: &mut Uniquer, text: &str) -> Result<ValueId, Value
     let Ok(tree) = parse_value(alloc, &mut tokens, 1) else {
         return Err(ValueStop::OutOfMemory);
     };
-    value_in(alloc, u, &[], &natives, &tree, &aliases)
+    let Ok(types) = Definitions::of(alloc, Vec::new(alloc)) else {
+        return Err(ValueStop::OutOfMemory);
+    };
+    value_in(alloc, u, &types, &natives, &tree, &aliases)
 }
 
 #[test]
@@ -68,6 +72,43 @@ fn a_key_is_known_behind_itself(rt: HostRuntime) -> Result<(), Fail> {
         assert_eq!(rt; keys.has(key), known);
         assert_eq!(rt; keys.add(key)?, known);
         assert!(rt; keys.has(key));
+    }
+    Ok(())
+}
+
+// Definitions without parameters, of these kinds and names.
+fn definitions(alloc: Global, names: &[(bool, &str)]) -> Result<Vec<TypeDef>, AllocError> {
+    let mut types = Vec::new(alloc);
+    for (is_type, name) in names {
+        types.push(TypeDef {
+            is_type: *is_type,
+            name: Text::from_slice(alloc, name.as_bytes())?,
+            body: Body {
+                vars: List::new(alloc),
+            },
+            params: List::new(alloc),
+        })?;
+    }
+    Ok(types)
+}
+
+#[test]
+fn a_definition_is_found_by_its_kind_and_name(rt: HostRuntime) -> Result<(), Fail> {
+    let twice = definitions(rt.alloc(), &[(true, "d.t"), (true, "d.u"), (true, "d.t")])?;
+    assert!(rt; !have_distinct_names(rt.alloc(), twice.as_slice())?);
+    let list = definitions(rt.alloc(), &[(true, "d.t"), (false, "d.t"), (true, "d.u")])?;
+    assert!(rt; have_distinct_names(rt.alloc(), list.as_slice())?);
+    let types = Definitions::of(rt.alloc(), list)?;
+    assert_eq!(rt; types.types().len(), 3);
+    for (is_type, name, want) in [
+        (true, "d.t", true),
+        (false, "d.t", true),
+        (true, "d.u", true),
+        (false, "d.u", false),
+        (true, "d", false),
+    ] {
+        let name = Text::from_slice(rt.alloc(), name.as_bytes())?;
+        assert_eq!(rt; types.find(is_type, &name).is_some(), want);
     }
     Ok(())
 }

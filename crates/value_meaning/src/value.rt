@@ -1,6 +1,6 @@
 //! The value of a whole tree.
 
-ghost use Rattle.std.specs.Prelude.{◌≡◌, ◌<◌, ℕ, Bool, List, length, IfErr, IfOk};
+ghost use Rattle.std.specs.Prelude.{◌≡◌, ◌<◌, ℕ, Bool, List, length, IfErr, IfOk, OnErr};
 ghost use Rattle.std.specs.declared.option.Option.TheVariants.{None};
 ghost use Rattle.attr_value.specs.Ids.{at};
 ghost use Rattle.constraint_solver.specs.Definitions.{AreSoundDefs};
@@ -9,13 +9,13 @@ ghost use Rattle.first_fault.specs.Firsts.{IsFirst};
 ghost use Rattle.native_predicate.specs.Lists.{count, tests};
 ghost use Rattle.value_meaning.specs.AliasTable.{alias_values, AreGoodAliases, id_of, with_alias};
 ghost use Rattle.value_meaning.specs.Faults.{IsFault, Means};
-ghost use Rattle.value_meaning.specs.Refusals.{RefusesValue};
+ghost use Rattle.value_meaning.specs.Refusals.{ExcludesValue, RefusesValue};
 
+use crate::definitions::Definitions;
 use crate::env::{Aliases, Env};
 use crate::judge::judge;
 use attr_uniquer::Uniquer;
 use attr_value::{Text, ValueId};
-use dialect_defs::TypeDef;
 use first_fault::Fault;
 use generic_syntax::ValueCst;
 use native_predicate::Natives;
@@ -36,12 +36,12 @@ pub enum ValueStop {
 /// the least place, and there with the least number of a rule. Aliases are those that are known.
 ///
 /// The value is interned, and so are its parts, also where there is a fault or memory runs out;
-/// values that were in the table before keep their ids. Definitions name values of the table, and
-/// the first of several of one name counts. It recurses as deep as the tree is.
+/// values that were in the table before keep their ids. Definitions name values of the table. It
+/// recurses as deep as the tree is.
 pub fn value_in(
     alloc: Global,
     u: &mut Uniquer,
-    types: &[TypeDef],
+    types: &Definitions,
     natives: &Natives,
     cst: &ValueCst,
     aliases: &Aliases,
@@ -56,6 +56,8 @@ pub fn value_in(
         (alias_values u.old aliases.now) 1 cst.now) None) }
     ensures refused { IfErr result (RefusesValue (IsFault u.old (tests property natives.now)
         types.now (alias_values u.old aliases.now) 1 cst.now)) }
+    ensures unmeant { IfErr result (ExcludesValue (Means u.old (tests property natives.now)
+        types.now (alias_values u.old aliases.now) cst.now)) }
 {
     let env = Env {
         alloc,
@@ -78,7 +80,7 @@ pub fn value_in(
 pub fn define_alias(
     alloc: Global,
     u: &mut Uniquer,
-    types: &[TypeDef],
+    types: &Definitions,
     natives: &Natives,
     cst: &ValueCst,
     is_type: bool,
@@ -92,10 +94,14 @@ pub fn define_alias(
     ensures good { AreGoodAliases u.new (tests property natives.now) types.now aliases.new }
     ensures defined { IfOk result (λ id. (kind : Bool) (other : List ℕ) →
         id_of aliases.new kind other ≡ with_alias (id_of aliases.old) is_type name id kind other) }
+    ensures err { OnErr result ((kind : Bool) (other : List ℕ) →
+        id_of aliases.new kind other ≡ id_of aliases.old kind other) }
     ensures ok { IfOk result (λ id. Means u.old (tests property natives.now) types.now
         (alias_values u.old aliases.old) cst.now (at u.new id.0)) }
     ensures refused { IfErr result (RefusesValue (IsFault u.old (tests property natives.now)
         types.now (alias_values u.old aliases.old) 1 cst.now)) }
+    ensures unmeant { IfErr result (ExcludesValue (Means u.old (tests property natives.now)
+        types.now (alias_values u.old aliases.old) cst.now)) }
 {
     let id = value_in(alloc, u, types, natives, cst, aliases)?;
     match aliases.define(is_type, name, id) {

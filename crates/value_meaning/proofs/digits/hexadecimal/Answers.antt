@@ -1,5 +1,5 @@
 use Rattle.std.proofs.Common.{◌+◌, ◌*◌, slice_index_or, rules, ◌∙◌, ◌≡◌, min, ap, arith, drop}
-use Rattle.value_meaning.specs.Spelled.{hexadecimal}
+use Rattle.grammar.specs.Looks.{hexadecimal}
 use Rattle.ir_lexer.specs.Names.{hexadecimal_value}
 use Rattle.value_meaning.proofs.Capped.{hexadecimal-cut-next}
 use Rattle.value_meaning.specs.declared.digits.TheConstants.{TOO_GREAT}

@@ -1,5 +1,5 @@
 use Rattle.std.proofs.Common.{◌≡◌, ◌≤◌, min, drop}
-use Rattle.value_meaning.specs.Spelled.{hexadecimal}
+use Rattle.grammar.specs.Looks.{hexadecimal}
 use Rattle.value_meaning.specs.declared.digits.TheConstants.{TOO_GREAT}
 use Rattle.value_meaning.proofs.digits.hexadecimal.Given as goal
 

@@ -2,7 +2,8 @@ use Rattle.std.proofs.Common.{◌≡◌, ◌∙◌, ap, min, pos, neg_ℤ, if◌
 use Rattle.std.specs.Int.{w128}
 use Rattle.value_meaning.proofs.Kept.{residue-is, residue-cut}
 use Rattle.value_meaning.specs.declared.digits.TheConstants.{TOO_GREAT}
-use Rattle.value_meaning.specs.Spelled.{number_in, residue}
+use Rattle.grammar.specs.Looks.{number_in}
+use Rattle.value_meaning.specs.Spelled.{residue}
 use Rattle.value_meaning.proofs.number.kept_number.Goals as goal
 
 pub returns : goal.returns

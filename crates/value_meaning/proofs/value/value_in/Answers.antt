@@ -1,4 +1,5 @@
 use Rattle.value_meaning.proofs.Answered.{answered-first, answered-means, answered-some}
+use Rattle.value_meaning.proofs.Answered.{answered-unmeant}
 use Rattle.value_meaning.proofs.value.value_in.Goals as goal
 
 pub unwrap-requires : goal.unwrap-requires
@@ -24,3 +25,9 @@ returns-in-None-clause-ok g c =
     answered-means c.args.u.now _ _ c.args.types.now c.args.aliases.now c.requires.defs
     c.requires.aliases c.args.cst.now c.judge.new.u c.in-Ok.judged c.in-Ok.ensures.judged
     c.unwrap.result (search (c.unwrap.ensures))
+
+pub returns-in-Some-clause-unmeant : goal.returns-in-Some-clause-unmeant
+returns-in-Some-clause-unmeant g c =
+    answered-unmeant c.args.u.now _ _ c.args.types.now c.args.aliases.now c.requires.defs
+    c.requires.aliases c.args.cst.now c.judge.new.u c.in-Ok.judged c.in-Ok.ensures.judged
+    _ c.in-Some.is
