@@ -1,0 +1,5 @@
+pub mod Standings
+pub mod OpFaults
+pub mod ModuleFaults
+pub mod Shape
+pub mod Listed
