@@ -1,0 +1,15 @@
+pub mod Lists
+pub mod Zips
+pub mod Besides
+pub mod Flat
+pub mod Standing
+pub mod Types
+pub mod Forms
+pub mod Saying
+pub mod Proper
+pub mod Uses
+pub mod Knowing
+pub mod Decided
+pub mod Building
+pub mod Values
+pub mod Faultless
