@@ -1,0 +1,9 @@
+pub mod Trees
+pub mod Joining
+pub mod Weight
+pub mod Filling
+pub mod Counting
+pub mod Taking
+pub mod Sites
+pub mod Defining
+pub mod Composing
