@@ -1,0 +1,13 @@
+mod InOrder
+mod Counted
+mod Early
+mod NewNames
+mod Scoped
+mod OwnNames
+mod Pieces
+mod OneStep
+mod Naming
+mod WholeModule
+mod Flat
+mod Fitting
+mod NewAliases

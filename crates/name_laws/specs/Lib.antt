@@ -1,0 +1,2 @@
+pub mod Generic
+pub mod NewAliases
