@@ -9,7 +9,7 @@ use Rattle.grammar.specs.Looks.{all_digits}
 use Rattle.grammar.proofs.Meet.{and-true}
 use Rattle.ir_lexer.specs.Names.{is_between}
 use Rattle.ir_lexer.specs.Spelling.{Text}
-use Rattle.value_meaning.specs.Spelled.{number_in}
+use Rattle.grammar.specs.Looks.{number_in}
 use Rattle.derived_printer.proofs.Digits.{digits-decimal}
 
 -- a decimal digit

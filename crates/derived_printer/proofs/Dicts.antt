@@ -78,7 +78,7 @@ module _ (al : Aliases) (room : ℕ) where
           (λ t q. inr (t, refl, q)))
 
   -- the entry has this key and this value
-  abbrev EntryHas : EntryCst → Text × Value → Type 0
+  abbrev pub EntryHas : EntryCst → Text × Value → Type 0
   EntryHas e kv = entry_value (entry_seen al e) ≡ Some kv
 
   entry-has : (place : ℕ) (w : Text) (o : Option ValueCst) (k : Text) (v : Value) → w ≡ k
@@ -97,7 +97,8 @@ module _ (al : Aliases) (room : ℕ) where
       (λ w o p q. (p, q)))
       (λ place x q. entry-has place x.0 x.1 k v q.0 q.1)
 
-  each-entry : (keys : List Text) (vs : List Value) → (0 < length vs → (room == 0) ≡ false)
+  -- entries, one for each key, where a value may nest one deeper
+  pub each-entry : (keys : List Text) (vs : List Value) → (0 < length vs → (room == 0) ≡ false)
       → AllByRecursion AreBytes keys → AllByRecursion (Readable al room) vs
       → AllByRecursion (λ e. GivesAt room syntax.entry (entry_marks (e.0, shown_kid e.1))
       (λ a. EntryHas a e)) (zip keys vs)

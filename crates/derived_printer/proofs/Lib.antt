@@ -21,3 +21,10 @@ pub mod Numerals
 pub mod Dicts
 pub mod Heads
 pub mod RoundTrip
+pub mod Good
+pub mod ModulePieces
+pub mod ModuleWalk
+pub mod ModuleStored
+pub mod ModuleForms
+pub mod ModuleTurns
+pub mod FewOps

@@ -109,7 +109,7 @@ pub value-tidy : (v : Value) → Spellable v → HasBytes v → Tidy (value_mark
 value-tidy v r s = (readable no_aliases v r s).as_attr.tidy
 
 -- the text of tidy marks has their tokens
-tidy-tokens : (ms : List Mark) → Tidy ms → HasTokensOf ms (layout ms)
+pub tidy-tokens : (ms : List Mark) → Tidy ms → HasTokensOf ms (layout ms)
 tidy-tokens ms t = let (front, back, e, s, (place, rest, e2, e3)) = spell-both ms
     (token c.End [] ∷ []) (tokens_of ms) (spell-tokens ms) in
     let end : Token = record { class = c.End; text = []; place = place } in
@@ -167,7 +167,7 @@ same-tokens v w r s q p ts m l =
     cc
 
 -- lists with one item more at the end
-fronts : {A : Type 0} (xs ys : List A) (x y : A) → xs ++ x ∷ [] ≡ ys ++ y ∷ [] → xs ≡ ys
+pub fronts : {A : Type 0} (xs ys : List A) (x y : A) → xs ++ x ∷ [] ≡ ys ++ y ∷ [] → xs ≡ ys
 fronts [] [] x y e = refl
 fronts [] (b ∷ []) x y e = absurd (cc)
 fronts [] (b ∷ d ∷ ys) x y e = absurd (cc)

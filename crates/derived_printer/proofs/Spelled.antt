@@ -21,7 +21,7 @@ use Rattle.ir_lexer.specs.Spelling.{Text, Spelling, Fits, EachText, Spells, both
 use Rattle.ir_lexer.proofs.Derive.{behind, behind_all, behind-out, takes_none, none-in, and-left, and-right, and-both}
 use Rattle.ir_lexer.proofs.Machine.{upto, below}
 use Rattle.text_layout.specs.Apart.{is_empty}
-use Rattle.derived_printer.specs.Spelling.{is_bare_start, is_bare_byte, goes_on_bare, is_bare, escaped_byte, escaped, string_text, symbol_text, float_text, shape_text, dim_text, dims_text, name_class, name_text}
+use Rattle.derived_printer.specs.Spelling.{is_bare_start, is_bare_byte, goes_on_bare, is_bare, escaped_byte, escaped, string_text, symbol_text, float_text, shape_text, dim_text, dims_text, name_class, name_text, value_text, block_text}
 use Rattle.derived_printer.specs.Spellable.{AreBytes}
 use Rattle.derived_printer.specs.ValueMarks.{sign_text}
 use Rattle.derived_printer.proofs.Digits.{Digits, digits-decimal}
@@ -259,6 +259,28 @@ digits-bare (b ∷ ds) e =
         go : (q : Bool) → (q || (is_between 48 57 b || ((b == 36) || (b == 46)))) ≡ true
         go true = refl
         go false = rw e refl
+
+-- the name of a value
+pub value-spelled : (n : ℕ) → n < 10 ^ 64 → Spells c.ValueName (value_text n)
+unfolding Spells value_text
+value-spelled n small = (
+  37 ∷ [],
+  decimal n,
+  refl,
+  (37, refl, omega arith, omega arith),
+  inl (some-fit n (decimal n) (digits-decimal n small)),
+)
+
+-- the name of a block, whose number stands behind two letters
+pub block-spelled : (n : ℕ) → n < 10 ^ 64 → Spells c.BlockName (block_text n)
+unfolding Spells block_text
+block-spelled n small = (
+  94 ∷ [],
+  98 ∷ 98 ∷ decimal n,
+  refl,
+  (94, refl, omega arith, omega arith),
+  inr (suffix-fits (98 ∷ 98 ∷ decimal n) (digits-bare (decimal n) (digits-decimal n small).all)),
+)
 
 -- a width
 pub width-bare : (w : ℕ) → w < 2 ^ 32 → goes_on_bare (decimal w) ≡ true

@@ -1,6 +1,9 @@
 pub mod Spelling
 pub mod ValueMarks
+pub mod ModuleMarks
 pub mod Spellable
+pub mod Printable
 pub mod Prints
 pub mod Parts
+pub mod ModuleParts
 pub mod ReadBack

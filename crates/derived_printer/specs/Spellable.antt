@@ -4,16 +4,18 @@
 -- dialects' values have their shape, and it nests no deeper than the limit. No dialect's definition
 -- is asked. That texts have bytes is known of all that a program holds, and is apart here.
 --
---   IsFullName name      the name of a dialect's value: a bare id in which a dot stands
---   Spellable v          the value can be spelled
---   HasBytes v           all texts in the value have bytes
-use Rattle.std.specs.Prelude.{◌≡◌, ◌<◌, ◌≤◌, true}
+--   IsFullName name       the name of a dialect's value: a bare id in which a dot stands
+--   HaveFullNames types   the names of all definitions are such names
+--   Spellable v           the value can be spelled
+--   HasBytes v            all texts in the value have bytes
+use Rattle.std.specs.Prelude.{◌≡◌, ◌<◌, ◌≤◌, true, List}
 use Rattle.std.specs.List.{AllByRecursion}
 use Rattle.attr_value.specs.declared.head.Head.{Head}
 use Rattle.attr_value.specs.declared.head.Head.TheVariants as h
 use Rattle.attr_value.specs.declared.head.TheConstants.{DEPTH_LIMIT}
 use Rattle.attr_value.specs.Heads.{OwnRule}
 use Rattle.attr_value.specs.Values.{Value, Values, none, more, list_of, depth}
+use Rattle.dialect_defs.specs.declared.definition.TypeDef.{TypeDef}
 use Rattle.grammar.specs.Looks.{has_dot}
 use Rattle.ir_lexer.specs.Spelling.{Text}
 use Rattle.derived_printer.specs.Spelling.{is_bare}
@@ -24,6 +26,10 @@ use Rattle.derived_printer.specs.Spelling.{is_bare}
 pub record IsFullName (name : Text) : Type 0 where
   pub bare : is_bare name ≡ true
   pub dotted : has_dot name ≡ true
+
+-- the name of each definition of a list has its shape
+pub record HaveFullNames (types : List TypeDef) : Type 0 where
+  pub each : AllByRecursion (λ d. IsFullName d.name) types
 
 -- the name of a dialect's value has its shape
 abbrev pub IsNamed : Head → Type 0

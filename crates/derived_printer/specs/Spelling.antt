@@ -15,6 +15,8 @@
 --   dims_text dims        dimensions, each with an `x` behind it
 --   truth_text n          a number of one bit
 --   name_text t name      the name of a dialect's value, with its sign
+--   value_text n          the name of the SSA value of this number
+--   block_text k          the name of the block of this number
 use Rattle.std.specs.Prelude.{ℕ, ◌+◌, ◌/◌, ◌%◌, Bool, true, false, not, ◌&&◌, ◌||◌, ◌==◌, nat_lt, List, [], ◌∷◌, ◌++◌, ℤ, pos, negsuc, if◌then◌else◌, cond, codes, decimal}
 use Rattle.std.specs.List.{flat_map}
 use Rattle.attr_value.specs.declared.kind.IntKind.{IntKind}
@@ -147,3 +149,13 @@ name_sign false = 35
 -- the name of a dialect's type or attribute, behind its sign
 abbrev pub name_text : Bool → Text → Text
 name_text is_type name = name_sign is_type ∷ name
+
+-- ---- names that are numbers
+
+-- an SSA value, by its number
+unfoldable pub value_text : ℕ → Text
+value_text n = codes "%" ++ decimal n
+
+-- a block, by its number in its region
+unfoldable pub block_text : ℕ → Text
+block_text k = codes "^bb" ++ decimal k

@@ -1,14 +1,17 @@
-//! What the canonical text of a value is to whoever reads it. This function does nothing: its
-//! clauses are facts on all values that can be spelled.
+//! What the canonical text of a value is to whoever reads it, and which values have one. These
+//! functions do nothing: their clauses are facts on all values.
 
-ghost use Rattle.std.specs.Prelude.{◌≡◌, false, ℤ};
+ghost use Rattle.std.specs.Prelude.{◌≡◌, false, List, ℤ};
 ghost use Rattle.attr_value.specs.declared.kind.IntKind.{IntKind};
 ghost use Rattle.attr_value.specs.Heads.{IsType};
 ghost use Rattle.attr_value.specs.Numbers.{IsKept};
 ghost use Rattle.attr_value.specs.Values.{Value};
+ghost use Rattle.dialect_defs.specs.declared.definition.TypeDef.{TypeDef};
+ghost use Rattle.dialect_defs.specs.Assignments.{Tests};
+ghost use Rattle.dialect_defs.specs.Goodness.{Good};
 ghost use Rattle.derived_printer.specs.ReadBack.{is_function, IsReadAs, IsNumberOf, HasTokensOf};
 ghost use Rattle.derived_printer.specs.ReadBack.{IsTextOf};
-ghost use Rattle.derived_printer.specs.Spellable.{Spellable, HasBytes};
+ghost use Rattle.derived_printer.specs.Spellable.{HaveFullNames, Spellable, HasBytes};
 ghost use Rattle.derived_printer.specs.ValueMarks.{number_marks, value_marks};
 ghost use Rattle.generic_syntax.specs.Values.{a_type, plain, an_attr};
 ghost use Rattle.grammar.specs.Grammar.{Tokens};
@@ -42,4 +45,10 @@ pub fn value_reads_back()
         (ts : Tokens) → MarksSpell (value_marks v) ts → MarksSpell (value_marks w) ts → v ≡ w }
     ensures same_text { (v w : Value) → Spellable v → HasBytes v → Spellable w → HasBytes w →
         layout (value_marks v) ≡ layout (value_marks w) → v ≡ w }
+{}
+
+/// A good value can be spelled, where the names of definitions have their shape.
+pub fn good_values_are_spellable()
+    ensures { (values : List Value) (tests : Tests) (types : List TypeDef) (v : Value) →
+        HaveFullNames types → Good values tests types v → Spellable v }
 {}

@@ -3,6 +3,7 @@
 ghost use Rattle.std.specs.Prelude.{◌≡◌, ◌<◌, length, map};
 ghost use Rattle.attr_value.specs.Ids.{at};
 ghost use Rattle.derived_printer.specs.Prints.{Prints};
+ghost use Rattle.derived_printer.specs.ReadBack as read;
 ghost use Rattle.derived_printer.specs.ValueMarks as mark;
 
 use crate::token::{int_type, number, part, separate, sign, truth, word};
@@ -20,6 +21,18 @@ pub fn is_unit(u: &Uniquer, id: ValueId) -> bool
     let (head, _) = u.view(id);
     match head {
         Head::Unit => true,
+        _ => false,
+    }
+}
+
+/// Whether a value is a function type.
+pub fn is_function(u: &Uniquer, id: ValueId) -> bool
+    requires { id.0 < length u.now }
+    ensures { result ≡ read.is_function (at u.now id.0).head }
+{
+    let (head, _) = u.view(id);
+    match head {
+        Head::Function { .. } => true,
         _ => false,
     }
 }

@@ -166,3 +166,28 @@ pub fn add_dims(text: &mut Vec<u8>, dims: &[Dim]) -> Result<(), AllocError>
     }
     Ok(())
 }
+
+/// Adds a prefix and a number.
+fn add_number(text: &mut Vec<u8>, prefix: &[u8], n: usize) -> Result<(), AllocError>
+    ensures { OnOk result (text.new.items ≡ text.old.items ++ (prefix.now ++ decimal n)) }
+{
+    let mut digits = Buffer::new();
+    text.extend_from_slice(prefix)?;
+    text.extend_from_slice(digits.format(n).as_bytes())
+}
+
+/// Adds the name of an SSA value.
+#[tactic(auto, unfolding(crate::specs::Spelling::value_text))]
+pub fn add_value(text: &mut Vec<u8>, n: usize) -> Result<(), AllocError>
+    ensures { OnOk result (text.new.items ≡ text.old.items ++ spec.value_text n) }
+{
+    add_number(text, b"%", n)
+}
+
+/// Adds the name of a block.
+#[tactic(auto, unfolding(crate::specs::Spelling::block_text))]
+pub fn add_block(text: &mut Vec<u8>, n: usize) -> Result<(), AllocError>
+    ensures { OnOk result (text.new.items ≡ text.old.items ++ spec.block_text n) }
+{
+    add_number(text, b"^bb", n)
+}

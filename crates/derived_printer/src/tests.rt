@@ -1,9 +1,13 @@
 //! Values and their canonical texts, which were written by hand.
 
-ghost use Rattle.std.specs.Prelude.{IsTrue};
-ghost use Rattle.attr_value.specs.Ids.{AreKnown};
+mod modules;
+
+ghost use Rattle.std.specs.Prelude.{◌≡◌, ℕ, ◌<◌, length, IsTrue, true};
+ghost use Rattle.attr_value.specs.Ids.{at, AreKnown};
+ghost use Rattle.derived_printer.specs.Spellable.{IsNamed, NodeIsSpellable, AreSpellable};
 
 use super::*;
+use crate::names::is_full_name;
 use attr_uniquer::Uniquer;
 use attr_value::{DEPTH_LIMIT, Dim, FloatKind, Head, IntKind, List, ShapeKind, Text, ValueId};
 use irdl_bytes::{MemSink, Sink};
@@ -225,6 +229,34 @@ fn keep(
     let known = are_known(u.len(), kids);
     assert!(rt; known);
     u.intern(head, kids)
+}
+
+// Whether a head's name, if it has one, is that of a dialect's value.
+fn is_named(head: &Head) -> bool
+    ensures { IsTrue result → IsNamed head.now }
+{
+    match head {
+        Head::Dialect { name, .. } => is_full_name(name.bytes()),
+        _ => true,
+    }
+}
+
+// Whether all values of a table can be spelled, their depth apart.
+fn are_spellable(u: &Uniquer) -> bool
+    ensures nodes { IsTrue result → (i : ℕ) → i < length u.now →
+        NodeIsSpellable (at u.now i).head (at u.now i).kids }
+    ensures kids { IsTrue result → (i : ℕ) → i < length u.now → AreSpellable (at u.now i).kids }
+{
+    for i in 0..u.len() {
+        let (head, kids) = u.view(ValueId(i));
+        if !u.keeps_own_rule(head, kids) {
+            return false;
+        }
+        if !is_named(head) {
+            return false;
+        }
+    }
+    true
 }
 
 // Prints a value that can be spelled.

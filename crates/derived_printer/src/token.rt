@@ -2,10 +2,11 @@
 //!
 //! A text that isn't there as it is spelled is made in a buffer, which all texts share.
 
-ghost use Rattle.std.specs.Prelude.{◌≡◌, [], ◌∷◌, true, false, decimal};
+ghost use Rattle.std.specs.Prelude.{◌≡◌, ◌≤◌, [], ◌∷◌, true, false, decimal};
 ghost use Rattle.attr_value.specs.Heads.{IsDim};
 ghost use Rattle.std.specs.List.{AllByRecursion};
 ghost use Rattle.text_layout.specs.Apart.{is_empty};
+ghost use Rattle.text_layout.specs.declared.blank.TheConstants.{INDENT_LIMIT};
 ghost use Rattle.text_layout.specs.Lines as line;
 ghost use Rattle.derived_printer.specs.Parts as part;
 ghost use Rattle.derived_printer.specs.Prints.{Prints};
@@ -66,6 +67,14 @@ pub fn separate<S: Sink>(
         return Ok(());
     }
     sign(layout, class)
+}
+
+/// Ends the line, and sets the indent of the next one.
+pub fn new_line<S: Sink>(layout: &mut Layout<'_, S>, indent: u32) -> Result<(), PrintError>
+    requires { indent ≤ INDENT_LIMIT }
+    ensures { Prints S.written S.faults layout.old (line.break_line indent ∷ []) result layout.new }
+{
+    layout.break_line(indent)
 }
 
 /// Lays a word down.

@@ -47,8 +47,9 @@ pub fn print_value<S: Sink>(
     value(u, id, layout, &mut text)
 }
 
+/// A value.
 #[cycle(values)]
-fn value<S: Sink>(
+pub fn value<S: Sink>(
     u: &Uniquer,
     id: ValueId,
     layout: &mut Layout<'_, S>,
@@ -102,7 +103,7 @@ fn node<S: Sink>(
 
 /// Values with commas between them.
 #[cycle(values)]
-fn commas<S: Sink>(
+pub fn commas<S: Sink>(
     u: &Uniquer,
     kids: &[ValueId],
     layout: &mut Layout<'_, S>,
@@ -122,7 +123,7 @@ fn commas<S: Sink>(
 
 /// Values between two signs.
 #[cycle(values)]
-fn enclosed<S: Sink>(
+pub fn enclosed<S: Sink>(
     u: &Uniquer,
     signs: (Class, Class),
     kids: &[ValueId],
@@ -278,7 +279,7 @@ fn entries<S: Sink>(
 
 /// A dictionary.
 #[cycle(values)]
-fn dict<S: Sink>(
+pub fn dict<S: Sink>(
     u: &Uniquer,
     keys: &[Text],
     kids: &[ValueId],
