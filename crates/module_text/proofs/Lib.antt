@@ -1,0 +1,16 @@
+pub mod Nesting
+pub mod Numbers
+pub mod Scopes
+pub mod Ready
+pub mod Values
+pub mod Parts
+pub mod Generic
+pub mod Choices
+pub mod Facts
+pub mod OneOperation
+pub mod Lists
+pub mod Trees
+pub mod Regions
+pub mod Whole
+pub mod RoundTrip
+pub mod Completed
