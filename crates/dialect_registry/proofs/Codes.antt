@@ -15,7 +15,7 @@ use Rattle.irdl_ops.specs.declared.raw.RawExpr.TheVariants as e
 use Rattle.irdl_ops.specs.declared.raw.StatementKind.{StatementKind}
 use Rattle.irdl_ops.specs.declared.raw.StatementKind.TheVariants as s
 use Rattle.dialect_registry.specs.declared.code.DefCode.{DefCode}
-use Rattle.dialect_registry.specs.declared.code.DefCode.TheVariants.{Syntax, Nesting, NameRepeated, RefUnknown, ParamCount, PredicateUnknown, ChoiceLimit, BaseUnknown, StatementRepeated, ReservedName, VarLimit}
+use Rattle.dialect_registry.specs.declared.code.DefCode.TheVariants.{Syntax, Nesting, NameRepeated, RefUnknown, ParamCount, PredicateUnknown, ChoiceLimit, ConstantBad, FormatSyntax, BaseUnknown, StatementRepeated, ReservedName, VarLimit}
 use Rattle.dialect_registry.specs.declared.refusal.DefRefusal.{DefRefusal}
 use Rattle.dialect_registry.specs.Codes.{code_number, IsRule, Breaks, refusal}
 use Rattle.dialect_registry.specs.DefFaults.{IsStatementFault, IsDefFault, IsDialectFault, IsFault, IsFirstIn, world_of}
@@ -30,7 +30,8 @@ numbered n =
     if n == 1 then Syntax else if n == 2 then Nesting else if n == 3 then NameRepeated
     else if n == 4 then RefUnknown else if n == 5 then ParamCount
     else if n == 6 then PredicateUnknown
-    else if n == 7 then ChoiceLimit else if n == 16 then BaseUnknown
+    else if n == 7 then ChoiceLimit else if n == 8 then ConstantBad
+    else if n == 9 then FormatSyntax else if n == 16 then BaseUnknown
     else if n == 17 then StatementRepeated else if n == 18 then ReservedName else VarLimit
 
 numbered-code_number : (c : DefCode) → numbered (code_number c) ≡ c
@@ -42,6 +43,8 @@ numbered-code_number RefUnknown = refl
 numbered-code_number ParamCount = refl
 numbered-code_number PredicateUnknown = refl
 numbered-code_number ChoiceLimit = refl
+numbered-code_number ConstantBad = refl
+numbered-code_number FormatSyntax = refl
 numbered-code_number BaseUnknown = refl
 numbered-code_number StatementRepeated = refl
 numbered-code_number ReservedName = refl

@@ -79,7 +79,7 @@ file-first files natives i defs fault at first =
         let same : other ≡ defs = cc in
         subst (λ d. IsFileFault (world_of files natives) (dialects_of (take i files)) d f) same p
 
-slice_get-below : {A : Type 0} (xs : List A) (n : ℕ) (x : A) → slice_get xs n ≡ Some x
+pub slice_get-below : {A : Type 0} (xs : List A) (n : ℕ) (x : A) → slice_get xs n ≡ Some x
     → n < length xs
 slice_get-below [] n x e = absurd (cc)
 slice_get-below (y ∷ xs) zero x e = omega arith

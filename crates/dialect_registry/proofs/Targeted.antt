@@ -9,9 +9,10 @@ use Rattle.ir_lexer.specs.Spelling.{Text}
 use Rattle.irdl_ops.specs.declared.raw.RawDef.{RawDef}
 use Rattle.irdl_ops.specs.declared.raw.RawDialect.{RawDialect}
 use Rattle.dialect_registry.specs.declared.names.NameMap.{NameMap}
+use Rattle.dialect_registry.specs.declared.targets.Target.{Target}
 use Rattle.dialect_registry.specs.declared.targets.Targets.{Targets}
 use Rattle.dialect_registry.specs.Scopes.{value_at, found_in, Finds}
-use Rattle.dialect_registry.specs.Targets.{parameters_of, def_named, dialect_named, named_in}
+use Rattle.dialect_registry.specs.Targets.{target_of, def_named, dialect_named, named_in}
 
 find-more : {A : Type 0} (p : A → Bool) (xs : List A) (x : A)
     → find p (xs ++ x ∷ []) ≡ option_or (find p xs) (if p x then Some x else None)
@@ -32,29 +33,29 @@ find-more {A = A} p (y ∷ xs) x = go (p y) (find-more p xs x)
 -- the definitions of a table, with one more
 pub defs-more : (defs : List RawDef) (i : ℕ) (x : RawDef) (name : Text) → i < length defs
     → x ≡ get_or defs i x
-    → option_map parameters_of (def_named (take (i + 1) defs) name)
-    ≡ option_or (option_map parameters_of (def_named (take i defs) name))
-    (if bytes_eq x.name name then Some (parameters_of x) else None)
+    → option_map target_of (def_named (take (i + 1) defs) name)
+    ≡ option_or (option_map target_of (def_named (take i defs) name))
+    (if bytes_eq x.name name then Some (target_of x) else None)
 defs-more defs i x name less is =
-    ap (λ l. option_map parameters_of (def_named l name))
+    ap (λ l. option_map target_of (def_named l name))
     (take_more defs i x less ∙ ap (λ y. take i defs ++ y ∷ []) (sym is))
-    ∙ ap (option_map parameters_of) (find-more (λ d. bytes_eq d.name name) (take i defs) x)
+    ∙ ap (option_map target_of) (find-more (λ d. bytes_eq d.name name) (take i defs) x)
     ∙ both (def_named (take i defs) name) (bytes_eq x.name name)
   where
     both : (o : Option RawDef) (b : Bool)
-        → option_map parameters_of (option_or o (if b then Some x else None))
-        ≡ option_or (option_map parameters_of o) (if b then Some (parameters_of x) else None)
+        → option_map target_of (option_or o (if b then Some x else None))
+        ≡ option_or (option_map target_of o) (if b then Some (target_of x) else None)
     both None true = refl
     both None false = refl
     both (Some y) b = refl
 
 -- what a dialect's table finds is what the dialect has
 pub found-named : (o : Option RawDef)
-    → option_flatten (option_map parameters_of o) ≡ option_and_then parameters_of o
+    → option_flatten (option_map target_of o) ≡ option_and_then target_of o
 found-named None = refl
-found-named (Some x) = go (parameters_of x)
+found-named (Some x) = go (target_of x)
   where
-    go : (p : Option ℕ) → option_flatten (Some p) ≡ p
+    go : (p : Option Target) → option_flatten (Some p) ≡ p
     go None = refl
     go (Some n) = refl
 
@@ -68,7 +69,7 @@ there-more (Some v) (Some w) b m y e = refl
 there-more None (Some w) b m y e = absurd (cc)
 there-more (Some v) None b m y e = absurd (cc)
 
-each-more : {A B : Type 0} (f : A → Option ℕ) (g : B → Option ℕ) (a : Option A) (x : Option B)
+each-more : {A B : Type 0} (f : A → Option Target) (g : B → Option Target) (a : Option A) (x : Option B)
     (b : Bool) (m : A) (y : B) → is_some a ≡ is_some x
     → option_and_then f a ≡ option_and_then g x → f m ≡ g y
     → option_and_then f (option_or a (if b then Some m else None))
@@ -81,7 +82,7 @@ each-more f g (Some v) None b m y e h k = absurd (cc)
 
 -- a table that finds what references to some dialects name, with one dialect more
 pub finds-more : (before : List RawDialect) (dialect : RawDialect) (old new : Targets)
-    (m : NameMap (Option ℕ)) → Finds before old
+    (m : NameMap (Option Target)) → Finds before old
     → ((n : Text) → found_in n m ≡ named_in n dialect)
     → ((other : Text) → value_at new.dialects other
     ≡ option_or (value_at old.dialects other)

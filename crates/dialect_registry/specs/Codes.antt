@@ -2,14 +2,15 @@
 --
 --   code_number code     the number of a rule, as reports write it
 --   code_name code       the name of a rule, as reports write it
+--   code_detail code     what stands behind it
 --   IsRule number        a rule has this number
 --   refusal place code   the refusal at this place, by this rule
 --   Breaks B place code  the rule is broken at this place, where B holds: the set of this one fault
-use Rattle.std.specs.Prelude.{◌≡◌, ℕ, codes}
+use Rattle.std.specs.Prelude.{◌≡◌, ℕ, [], codes}
 use Rattle.ir_lexer.specs.Spelling.{Text}
 use Rattle.first_fault.specs.declared.fault.Fault.{Fault}
 use Rattle.dialect_registry.specs.declared.code.DefCode.{DefCode}
-use Rattle.dialect_registry.specs.declared.code.DefCode.TheVariants.{Syntax, Nesting, NameRepeated, RefUnknown, ParamCount, PredicateUnknown, ChoiceLimit, BaseUnknown, StatementRepeated, ReservedName, VarLimit}
+use Rattle.dialect_registry.specs.declared.code.DefCode.TheVariants.{Syntax, Nesting, NameRepeated, RefUnknown, ParamCount, PredicateUnknown, ChoiceLimit, ConstantBad, FormatSyntax, BaseUnknown, StatementRepeated, ReservedName, VarLimit}
 
 -- the number of a rule, as reports write it
 abbrev pub code_number : DefCode → ℕ
@@ -20,6 +21,8 @@ code_number RefUnknown = 4
 code_number ParamCount = 5
 code_number PredicateUnknown = 6
 code_number ChoiceLimit = 7
+code_number ConstantBad = 8
+code_number FormatSyntax = 9
 code_number BaseUnknown = 16
 code_number StatementRepeated = 17
 code_number ReservedName = 18
@@ -34,10 +37,17 @@ code_name RefUnknown = codes "RefUnknown"
 code_name ParamCount = codes "ParamCount"
 code_name PredicateUnknown = codes "PredicateUnknown"
 code_name ChoiceLimit = codes "ChoiceLimit"
+code_name ConstantBad = codes "ConstantBad"
+code_name FormatSyntax = codes "FormatSyntax"
 code_name BaseUnknown = codes "BaseUnknown"
 code_name StatementRepeated = codes "StatementRepeated"
 code_name ReservedName = codes "ReservedName"
 code_name VarLimit = codes "VarLimit"
+
+-- what stands behind the name: no format string is read past its first byte yet
+abbrev pub code_detail : DefCode → Text
+code_detail FormatSyntax = codes " at 0"
+code_detail _ = []
 
 -- a rule has this number
 abbrev pub IsRule : ℕ → Type 0

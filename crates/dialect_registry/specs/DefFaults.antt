@@ -33,7 +33,7 @@ use Rattle.dialect_registry.specs.Limits.{IsExtra, variables}
 use Rattle.dialect_registry.specs.NameFaults.{IsFaultIn, marks_of_body, choices}
 use Rattle.dialect_registry.specs.Parts.{Among, Behind}
 use Rattle.dialect_registry.specs.References.{IsExprFault}
-use Rattle.dialect_registry.specs.Shapes.{IsBadDefName, IsBadDialectName, IsBadAttrName}
+use Rattle.dialect_registry.specs.NameShapes.{IsBadDefName, IsBadDialectName, IsBadAttrName}
 use Rattle.dialect_registry.specs.Targets.{World}
 
 -- ---- statements

@@ -1,9 +1,15 @@
 pub mod Codes
 pub mod Parts
-pub mod Shapes
+pub mod NameShapes
 pub mod Targets
 pub mod References
 pub mod NameFaults
 pub mod Limits
 pub mod DefFaults
+pub mod Resolved
+pub mod Registered
+pub mod ConstantFaults
+pub mod Loaded
 pub mod Scopes
+pub mod Resolving
+pub mod Refusals

@@ -16,6 +16,7 @@ use Rattle.irdl_ops.specs.declared.raw.RawExpr.{RawExpr}
 use Rattle.irdl_ops.specs.declared.raw.RawExpr.TheVariants.{Pred, BaseRef, BaseName, Parametric}
 use Rattle.irdl_ops.specs.declared.raw.RawRef.{RawRef}
 use Rattle.dialect_registry.specs.declared.code.DefCode.TheVariants.{RefUnknown, ParamCount, PredicateUnknown, BaseUnknown}
+use Rattle.dialect_registry.specs.declared.targets.Target.{Target}
 use Rattle.dialect_registry.specs.Codes.{Breaks}
 use Rattle.dialect_registry.specs.Targets.{World, target}
 
@@ -29,7 +30,7 @@ IsUnknown w own r = target w own r ≡ None
 
 -- the reference names one that has another number of parameters
 abbrev pub IsMiscounted : World → Text → RawRef → ℕ → Type 0
-IsMiscounted w own r n = (count : ℕ) × (target w own r ≡ Some count) × (count ≡ n → ⊥)
+IsMiscounted w own r n = (t : Target) × (target w own r ≡ Some t) × (t.parameters ≡ n → ⊥)
 
 -- no kind of head has this name
 abbrev pub IsNoBase : Text → Type 0

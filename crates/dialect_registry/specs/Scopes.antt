@@ -26,6 +26,7 @@ use Rattle.dialect_registry.specs.declared.names.NameMap.{NameMap}
 use Rattle.dialect_registry.specs.declared.names.NameSet.{NameSet}
 use Rattle.dialect_registry.specs.declared.refusal.DefRefusal.{DefRefusal}
 use Rattle.dialect_registry.specs.declared.scope.Scope.{Scope}
+use Rattle.dialect_registry.specs.declared.targets.Target.{Target}
 use Rattle.dialect_registry.specs.declared.targets.Targets.{Targets}
 use Rattle.dialect_registry.specs.NameFaults.{NameMark, stands_for, is_label, is_begun, choices, IsFaultIn}
 use Rattle.dialect_registry.specs.DefFaults.{is_def, is_dialect}
@@ -64,11 +65,11 @@ pub record HasDefs (defs : List RawDef) (s : NameSet) : Type 0 where
   pub each : (name : Text) → holds s name ≡ is_def defs name
 
 -- what a dialect's table finds at a name
-abbrev pub found_in : Text → NameMap (Option ℕ) → Option ℕ
+abbrev pub found_in : Text → NameMap (Option Target) → Option Target
 found_in n m = option_flatten (value_at m n)
 
 -- what the table finds at two names
-abbrev pub found : Targets → Text → Text → Option ℕ
+abbrev pub found : Targets → Text → Text → Option Target
 found t d n = option_and_then (found_in n) (value_at t.dialects d)
 
 -- the table finds what references to these dialects name

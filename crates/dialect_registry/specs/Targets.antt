@@ -5,11 +5,14 @@
 -- name.
 --
 --   World                    what references may name: all dialects, and predicates by their names
---   parameters_of def        how many parameters a type or an attribute has; an operation can't be
---                            referred to
---   named dialects d n       how many the definition `@d::@n` has, where it is one of these
+--   listed by statements     what a body lists first of one kind
+--   parameters_in statements its parameters
+--   target_of def            what a reference to a type or an attribute names: whether it is a
+--                            type, and how many parameters it has; no operation is referred to
+--   named dialects d n       what the reference `@d::@n` names, where it names one of these
 --   target w own r           the same of a reference that stands in the dialect `own`
-use Rattle.std.specs.Prelude.{ℕ, List, [], ◌∷◌, length, find, bytes_eq, option_and_then}
+use Rattle.std.specs.Prelude.{ℕ, true, false, List, [], ◌∷◌, length, find, bytes_eq}
+use Rattle.std.specs.Prelude.{option_and_then}
 use Rattle.std.specs.Option.{unwrap_or}
 use Rattle.std.specs.declared.option.Option.{Option}
 use Rattle.std.specs.declared.option.Option.TheVariants.{Some, None}
@@ -18,34 +21,46 @@ use Rattle.irdl_ops.specs.declared.raw.DefKind.{DefKind}
 use Rattle.irdl_ops.specs.declared.raw.DefKind.TheVariants.{OfType, OfAttr, OfOp}
 use Rattle.irdl_ops.specs.declared.raw.RawDef.{RawDef}
 use Rattle.irdl_ops.specs.declared.raw.RawDialect.{RawDialect}
+use Rattle.irdl_ops.specs.declared.raw.RawEntry.{RawEntry}
 use Rattle.irdl_ops.specs.declared.raw.RawRef.{RawRef}
 use Rattle.irdl_ops.specs.declared.raw.RawStatement.{RawStatement}
 use Rattle.irdl_ops.specs.declared.raw.StatementKind.{StatementKind}
 use Rattle.irdl_ops.specs.declared.raw.StatementKind.TheVariants.{Parameters}
+use Rattle.dialect_registry.specs.declared.targets.Target.{Target}
 
 -- what references may name: the dialects of all files, in order, and the predicates
 pub record World : Type 0 where
   pub dialects : List RawDialect
   pub natives : List Text
 
--- how many parameters a statement lists, where it is a list of parameters
-abbrev pub listed : StatementKind → Option ℕ
-listed (Parameters entries) = Some (length entries)
-listed _ = None
+-- what a body lists first of one kind; no list is an empty one
+abbrev pub listed : {A : Type 0} → (StatementKind → Option (List A)) → List RawStatement → List A
+listed by [] = []
+listed by (s ∷ ss) = unwrap_or (by s.kind) (listed by ss)
 
--- the number of parameters in the first list of them; no list is an empty one
+-- the parameters that a statement lists
+abbrev pub parameters_by : StatementKind → Option (List RawEntry)
+parameters_by (Parameters entries) = Some entries
+parameters_by _ = None
+
+-- the first list of parameters of a body
+abbrev pub parameters_in : List RawStatement → List RawEntry
+parameters_in statements = listed parameters_by statements
+
+-- the number of parameters that a body lists
 abbrev pub parameter_count : List RawStatement → ℕ
-parameter_count [] = 0
-parameter_count (s ∷ ss) = unwrap_or (listed s.kind) (parameter_count ss)
+parameter_count statements = length (parameters_in statements)
 
--- how many parameters a type or an attribute has
-abbrev pub parameters_by : DefKind → List RawStatement → Option ℕ
-parameters_by OfType statements = Some (parameter_count statements)
-parameters_by OfAttr statements = Some (parameter_count statements)
-parameters_by OfOp statements = None
+-- what a reference to a definition with these statements names
+abbrev pub target_by : DefKind → List RawStatement → Option Target
+target_by OfType statements =
+    Some (record { is_type = true; parameters = parameter_count statements })
+target_by OfAttr statements =
+    Some (record { is_type = false; parameters = parameter_count statements })
+target_by OfOp statements = None
 
-abbrev pub parameters_of : RawDef → Option ℕ
-parameters_of def = parameters_by def.kind def.statements
+abbrev pub target_of : RawDef → Option Target
+target_of def = target_by def.kind def.statements
 
 -- the first of some definitions that has the name
 abbrev pub def_named : List RawDef → Text → Option RawDef
@@ -55,14 +70,14 @@ def_named defs name = find (λ d. bytes_eq d.name name) defs
 abbrev pub dialect_named : List RawDialect → Text → Option RawDialect
 dialect_named dialects name = find (λ d. bytes_eq d.name name) dialects
 
--- how many parameters the definition of this name in the dialect has
-abbrev pub named_in : Text → RawDialect → Option ℕ
-named_in name dialect = option_and_then parameters_of (def_named dialect.defs name)
+-- what the definition of this name in the dialect is
+abbrev pub named_in : Text → RawDialect → Option Target
+named_in name dialect = option_and_then target_of (def_named dialect.defs name)
 
--- how many parameters the definition `@d::@n` has
-abbrev pub named : List RawDialect → Text → Text → Option ℕ
+-- what the reference `@d::@n` names
+abbrev pub named : List RawDialect → Text → Text → Option Target
 named dialects d n = option_and_then (named_in n) (dialect_named dialects d)
 
 -- the same of a reference; one without a dialect means that in which it stands
-abbrev pub target : World → Text → RawRef → Option ℕ
+abbrev pub target : World → Text → RawRef → Option Target
 target w own r = named w.dialects (unwrap_or r.dialect own) r.name

@@ -22,6 +22,10 @@ pub enum DefCode {
     PredicateUnknown,
     /// A body with too many choices.
     ChoiceLimit,
+    /// A constant that has no good value.
+    ConstantBad,
+    /// A format string, none of which is read yet.
+    FormatSyntax,
     /// The name of no kind of head.
     BaseUnknown,
     /// A statement that stands a second time in its body.
@@ -34,7 +38,7 @@ pub enum DefCode {
 
 impl DefCode {
     ghost use Rattle.dialect_registry.specs.declared.code.DefCode.{DefCode};
-    ghost use Rattle.dialect_registry.specs.Codes.{code_number, code_name};
+    ghost use Rattle.dialect_registry.specs.Codes.{code_number, code_name, code_detail};
 
     /// The rule of a number, where a rule has it.
     pub fn of_number(number: u32) -> Option<DefCode>
@@ -48,6 +52,8 @@ impl DefCode {
             5 => Some(DefCode::ParamCount),
             6 => Some(DefCode::PredicateUnknown),
             7 => Some(DefCode::ChoiceLimit),
+            8 => Some(DefCode::ConstantBad),
+            9 => Some(DefCode::FormatSyntax),
             16 => Some(DefCode::BaseUnknown),
             17 => Some(DefCode::StatementRepeated),
             18 => Some(DefCode::ReservedName),
@@ -68,6 +74,8 @@ impl DefCode {
             DefCode::ParamCount => 5,
             DefCode::PredicateUnknown => 6,
             DefCode::ChoiceLimit => 7,
+            DefCode::ConstantBad => 8,
+            DefCode::FormatSyntax => 9,
             DefCode::BaseUnknown => 16,
             DefCode::StatementRepeated => 17,
             DefCode::ReservedName => 18,
@@ -87,10 +95,22 @@ impl DefCode {
             DefCode::ParamCount => "ParamCount",
             DefCode::PredicateUnknown => "PredicateUnknown",
             DefCode::ChoiceLimit => "ChoiceLimit",
+            DefCode::ConstantBad => "ConstantBad",
+            DefCode::FormatSyntax => "FormatSyntax",
             DefCode::BaseUnknown => "BaseUnknown",
             DefCode::StatementRepeated => "StatementRepeated",
             DefCode::ReservedName => "ReservedName",
             DefCode::VarLimit => "VarLimit",
+        }
+    }
+
+    /// What stands behind the rule's name in a report: where in a format string the fault is.
+    pub fn detail(&self) -> &str
+        ensures { result.now ≡ code_detail self.now }
+    {
+        match self {
+            DefCode::FormatSyntax => " at 0",
+            _ => "",
         }
     }
 }

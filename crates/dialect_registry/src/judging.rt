@@ -17,9 +17,9 @@ ghost use Rattle.native_predicate.specs.Lists.{names};
 use crate::body::judge_body;
 use crate::code::{DefCode, fault_if};
 use crate::limits::judge_variables;
+use crate::name_shapes::{is_bad_dialect, is_bare_id};
 use crate::names::NameSet;
 use crate::refusal::DefRefusal;
-use crate::shapes::{is_bad_dialect, is_bare_id};
 use crate::statement::judge_statements;
 use crate::targets::Targets;
 use first_fault::{Fault, earlier};
@@ -39,17 +39,35 @@ pub fn judge(
     ensures rule { IfOk result (λ first. IfSome first (λ refusal. IsRule refusal.code)) }
 {
     let targets = Targets::of(alloc, files)?;
+    judge_by(alloc, &targets, files, natives)
+}
+
+/// The same, by what references may name in these files.
+pub fn judge_by(
+    alloc: Global,
+    targets: &Targets,
+    files: &[RawDefs],
+    natives: &Natives,
+) -> Result<Option<DefRefusal>, AllocError>
+    requires { Finds (spec.dialects_of files.now) targets.now }
+    ensures first { IfOk result (IsFirstIn (IsFault files.now (names title natives.now))) }
+    ensures rule { IfOk result (λ first. IfSome first (λ refusal. IsRule refusal.code)) }
+{
     let mut dialects = NameSet::new(alloc);
     let mut first = None;
     for (file, defs) in files.iter().enumerate() {
-        let fault = judge_file(alloc, &targets, natives, &mut dialects, defs)?;
+        let fault = judge_file(alloc, targets, natives, &mut dialects, defs)?;
         first = or_in_file(first, file, fault);
     }
     Ok(first)
 }
 
 /// The fault that was found, or else the fault in the file with this number.
-fn or_in_file(first: Option<DefRefusal>, file: usize, fault: Option<Fault>) -> Option<DefRefusal>
+pub fn or_in_file(
+    first: Option<DefRefusal>,
+    file: usize,
+    fault: Option<Fault>,
+) -> Option<DefRefusal>
     ensures { result ≡ seen.or_in_file first file fault }
 {
     match (first, fault) {

@@ -13,8 +13,8 @@ ghost use Rattle.native_predicate.specs.Lists.{names};
 
 use crate::code::{DefCode, fault_if};
 use crate::limits::judge_entries;
-use crate::shapes::is_reserved_attr;
-use crate::targets::Targets;
+use crate::name_shapes::is_reserved_attr;
+use crate::targets::{Target, Targets};
 use attr_value::base_named;
 use first_fault::{Fault, earlier};
 use irdl_ops::{RawAttr, RawExpr, RawRef, RawStatement, StatementKind};
@@ -84,8 +84,8 @@ fn judge_expr(targets: &Targets, natives: &Natives, own: &[u8], expr: &RawExpr) 
     }
 }
 
-/// How many parameters the type or attribute of a reference has.
-fn find(targets: &Targets, own: &[u8], reference: &RawRef) -> Option<usize>
+/// What a reference in a dialect names.
+pub fn find(targets: &Targets, own: &[u8], reference: &RawRef) -> Option<Target>
     ensures { (w : World) → Finds w.dialects targets.now → result ≡ target w own.now reference.now }
 {
     match &reference.dialect {
@@ -102,7 +102,11 @@ fn judge_parts(targets: &Targets, own: &[u8], reference: &RawRef, parts: usize) 
         DefCode.ParamCount f) result }
 {
     match find(targets, own, reference) {
-        Some(count) => fault_if(count != parts, reference.place, DefCode::ParamCount),
+        Some(target) => fault_if(
+            target.parameters != parts,
+            reference.place,
+            DefCode::ParamCount,
+        ),
         None => fault_if(true, reference.place, DefCode::RefUnknown),
     }
 }

@@ -10,9 +10,16 @@ use crate::names::NameMap;
 use irdl_ops::{DefKind, RawDef, RawDefs, RawDialect, RawStatement, StatementKind};
 use std::alloc::{AllocError, Global};
 
-/// The definitions of a dialect by their names: how many parameters a type or attribute has, and
+/// What a reference names: a type or an attribute, with so many parameters.
+#[derive(Clone, Copy, Debug, PartialEq, Eq)]
+pub struct Target {
+    pub is_type: bool,
+    pub parameters: usize,
+}
+
+/// The definitions of a dialect by their names: what a reference to a type or attribute names, and
 /// nothing of an operation, to which nothing refers.
-pub type Definitions<'a> = NameMap<'a, Option<usize>>;
+pub type Definitions<'a> = NameMap<'a, Option<Target>>;
 
 /// The dialects by their names, each with its definitions. The first of a name stays.
 #[derive(Drop)]
@@ -32,14 +39,19 @@ fn parameter_count(statements: &[RawStatement]) -> usize
     0
 }
 
-/// How many parameters a type or an attribute has; `None` of an operation.
-fn parameters_of(def: &RawDef) -> Option<usize>
-    ensures { result ≡ spec.parameters_of def.now }
+/// What a reference to a definition names; `None` of an operation.
+fn target_of(def: &RawDef) -> Option<Target>
+    ensures { result ≡ spec.target_of def.now }
 {
-    match def.kind {
-        DefKind::OfType | DefKind::OfAttr => Some(parameter_count(def.statements.as_slice())),
-        DefKind::OfOp => None,
-    }
+    let is_type = match def.kind {
+        DefKind::OfType => true,
+        DefKind::OfAttr => false,
+        DefKind::OfOp => return None,
+    };
+    Some(Target {
+        is_type,
+        parameters: parameter_count(def.statements.as_slice()),
+    })
 }
 
 /// The definitions of a dialect by their names.
@@ -49,7 +61,7 @@ fn definitions_of<'a>(alloc: Global, dialect: &'a RawDialect) -> Result<Definiti
 {
     let mut named = NameMap::new(alloc);
     for def in dialect.defs.as_slice() {
-        named.add(def.name.bytes(), parameters_of(def))?;
+        named.add(def.name.bytes(), target_of(def))?;
     }
     Ok(named)
 }
@@ -80,9 +92,8 @@ impl<'a> Targets<'a> {
         Ok(())
     }
 
-    /// How many parameters the type or attribute of this name in this dialect has; `None` where
-    /// there is none.
-    pub fn find(&self, dialect: &[u8], name: &[u8]) -> Option<usize>
+    /// What a reference to this name in this dialect names; `None` where that is nothing.
+    pub fn find(&self, dialect: &[u8], name: &[u8]) -> Option<Target>
         ensures { result ≡ found self.now dialect.now name.now }
     {
         let definitions = self.dialects.get(dialect)?;

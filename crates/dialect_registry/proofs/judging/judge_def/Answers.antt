@@ -4,7 +4,7 @@ use Rattle.first_fault.proofs.Firsts.{first-either}
 use Rattle.dialect_registry.specs.declared.code.DefCode.TheVariants.{NameRepeated, ReservedName}
 use Rattle.dialect_registry.specs.Codes.{Breaks}
 use Rattle.dialect_registry.specs.DefFaults.{is_def}
-use Rattle.dialect_registry.specs.Shapes.{is_bare_id, IsBadDefName}
+use Rattle.dialect_registry.specs.NameShapes.{is_bare_id, IsBadDefName}
 use Rattle.dialect_registry.proofs.Breaking.{breaks-true, breaks-false}
 use Rattle.dialect_registry.proofs.judging.judge_def.Goals as goal
 

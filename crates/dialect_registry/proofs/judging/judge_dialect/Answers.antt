@@ -4,7 +4,7 @@ use Rattle.first_fault.proofs.Firsts.{first-either}
 use Rattle.dialect_registry.specs.declared.code.DefCode.TheVariants.{NameRepeated, ReservedName}
 use Rattle.dialect_registry.specs.Codes.{Breaks}
 use Rattle.dialect_registry.specs.DefFaults.{is_dialect}
-use Rattle.dialect_registry.specs.Shapes.{IsBadDialectName}
+use Rattle.dialect_registry.specs.NameShapes.{IsBadDialectName}
 use Rattle.dialect_registry.proofs.Breaking.{breaks-true, breaks-first}
 use Rattle.dialect_registry.proofs.judging.judge_dialect.Goals as goal
 
