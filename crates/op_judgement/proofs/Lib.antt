@@ -1,0 +1,11 @@
+pub mod Grown
+pub mod Finding
+pub mod Entering
+pub mod Attributes
+pub mod Sizes
+pub mod Gathering
+pub mod Known
+pub mod GenericTold
+pub mod Cutting
+pub mod Completing
+pub mod Breaking
