@@ -1,0 +1,5 @@
+pub mod Taking
+pub mod Meaning
+pub mod DeepRegions
+pub mod WrongUses
+pub mod UseWalk
