@@ -1,26 +1,32 @@
 -- Each line that is said has bytes.
-use Rattle.std.proofs.Common.{◌≡◌, [], ◌∷◌}
+use Rattle.std.proofs.Common.{◌≡◌, [], ◌∷◌, List, ap, ◌∙◌}
+use Rattle.std.specs.declared.option.Option.TheVariants.{Some}
+use Rattle.std.proofs.lemmas.Option.{same_Some}
 use Rattle.ir_lexer.specs.Spelling.{Text}
-use Rattle.irdl_engine.specs.declared.outcome.FileOutcome.TheVariants.{Unreadable, TooLong, Refused}
-use Rattle.irdl_engine.specs.declared.outcome.Refusal.{Refusal}
-use Rattle.irdl_engine.specs.Answer.{usage}
+use Rattle.ir_lexer.specs.declared.place.LineCol.{LineCol}
+use Rattle.dialect_registry.specs.declared.code.DefCode.{DefCode}
+use Rattle.irdl_engine.specs.declared.stop.Stop.{Stop}
+use Rattle.irdl_engine.specs.declared.stop.Stop.TheVariants.{Unreadable, TooLong, Refused, OutOfMemory}
+use Rattle.irdl_engine.specs.Answer.{Answer, usage, refused}
+use Rattle.irdl_engine.specs.InOrder.{text_at}
 use Rattle.irdl_engine.specs.Said.{said}
 
--- the line of a read fault has bytes
-pub unreadable-line : (name : Text) → (said name Unreadable).err ≡ [] → ⊥
-unreadable-line name e = absurd (cc)
-
--- the line of a file that is too long has bytes
-pub too-long-line : (name : Text) → (said name TooLong).err ≡ [] → ⊥
-too-long-line name e = absurd (cc)
-
 -- the line of a refusal has bytes
-pub refused-line : (name : Text) (r : Refusal) → (said name (Refused r)).err ≡ [] → ⊥
-refused-line [] r e = absurd (cc)
-refused-line (b ∷ name) r e = absurd (cc)
+refused-line : (name : Text) (place : LineCol) (code : DefCode)
+    → (refused name place code).err ≡ [] → ⊥
+refused-line [] place code e = absurd (cc)
+refused-line (b ∷ name) place code e = absurd (cc)
+
+-- the line of a stop has bytes
+pub said-line : (names : List Text) (stop : Stop) (a : Answer) → said names stop ≡ Some a
+    → a.err ≡ [] → ⊥
+said-line names (Unreadable n) a s e = absurd (cc)
+said-line names (TooLong n) a s e = absurd (cc)
+said-line names (Refused r) a s e =
+    let same = same_Some (refused (text_at names r.file) r.place r.code) a s in
+    refused-line (text_at names r.file) r.place r.code (ap (λ x. x.err) same ∙ e)
+said-line names OutOfMemory a s e = absurd (cc)
 
 -- the usage line has bytes
 pub usage-has : usage.err ≡ [] → ⊥
 usage-has e = absurd (cc)
-
-pub ruleset lines = (unreadable-line, too-long-line, refused-line)

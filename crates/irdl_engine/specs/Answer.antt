@@ -1,7 +1,8 @@
 -- What is to be answered: the status, and what each stream gets.
 --
 -- The rules are read in the order in which they are written: words that fit no form get the usage
--- line; then the file is read, and may be missing or too long; then its bytes are judged.
+-- line; then all files are read, in the order of the words, and the first that is missing or too
+-- long is told; then the texts are judged together.
 --
 --   Answer                   a status, with what standard output and standard error get
 --   done                     the answer that all is well, with nothing to write
@@ -11,16 +12,27 @@
 --   name_line title name     the line of these two: a title and a name
 --   refused name place code  the answer for a refused file
 --   place_at src place       the line and the column of a place of a text
---   Judged name src a        the bytes of a file are to be answered by a
---   Checked name found a     a file, which may not be there, is to be answered by a
---   Obeys files command a    the command over these files is to be answered by a
+--   refused_in names texts file place code
+--                            the answer for a refusal in the file with this number
+--   TellsUnread name found a a is the answer for a file that isn't there or is too long
+--   TellsFirstUnread files names a
+--                            the same of the first such file of these names
+--   TellsRefusal natives names texts a
+--                            the texts of files of these names are refused, and a is that answer
+--   Judged natives names texts a
+--                            the texts of files of these names are to be answered by a
+--   Checked natives files names a
+--                            the files of these names are to be answered by a
+--   Obeys natives files command a
+--                            the command over these files is to be answered by a
 --   NamedBy command name     the command names this file
 --   FaultsAt command a       a is a read fault of a file that the command names
---   MayAnswer files failed command a
---                            the same, or, where reading failed by itself, a read fault of a file
---                            that the command names
---   Accepted files command   the command names a file that is there, within the limit, and accepted
-use Rattle.std.specs.Prelude.{ℕ, ◌<◌, ◌≤◌, ◌≡◌, ◌⊎◌, [], ◌∷◌, ◌++◌, length}
+--   MayAnswer natives files failed command a
+--                            what is to be answered, or, where reading failed by itself, a read
+--                            fault of a file that the command names
+--   Accepted natives files command
+--                            the command names files that are there, within the limit, and accepted
+use Rattle.std.specs.Prelude.{ℕ, ◌<◌, ◌≡◌, ◌⊎◌, List, [], ◌∷◌, ◌++◌, length}
 use Rattle.std.specs.Prelude.{codes, decimal, Contains}
 use Rattle.std.specs.List.{concat}
 use Rattle.std.specs.declared.option.Option.{Option}
@@ -35,9 +47,11 @@ use Rattle.dialect_registry.specs.declared.code.DefCode.{DefCode}
 use Rattle.irdl_engine.specs.declared.status.Status.{Status}
 use Rattle.irdl_engine.specs.declared.status.Status.TheVariants.{Done, DefinitionRefused, Usage}
 use Rattle.irdl_engine.specs.declared.status.Status.TheVariants.{ReadFault, InputLimit}
-use Rattle.dialect_registry.specs.Codes.{code_number, code_name}
+use Rattle.dialect_registry.specs.Codes.{code_number, code_name, code_detail}
 use Rattle.irdl_engine.specs.Command.{Command, Check, files_of}
-use Rattle.irdl_engine.specs.Judged.{IsDefinition, IsRefusedAt}
+use Rattle.irdl_engine.specs.InOrder.{IsReached, text_at}
+use Rattle.irdl_engine.specs.Judged.{Predicates, AreDefinitions, AreRefusedAt}
+use Rattle.irdl_engine.specs.Reading.{AreTextsOf, IsRead}
 
 -- a status, with what standard output and standard error get
 pub record Answer : Type 0 where
@@ -77,30 +91,52 @@ abbrev pub refused : Text → LineCol → DefCode → Answer
 refused name place code = record {
   status = DefinitionRefused;
   out = [];
-  err = refusal_line name place (decimal (code_number code)) (code_name code) [];
+  err = refusal_line name place (decimal (code_number code)) (code_name code) (code_detail code);
 }
 
 -- the line and the column of a place of a text
 abbrev pub place_at : Text → ℕ → LineCol
 place_at src place = record { line = line_at src place; column = column_at src place }
 
--- a file whose bytes are read is accepted, or refused at a place of its text
-abbrev pub Judged : Text → Text → Answer → Type 0
-Judged name src a = (IsDefinition src × (a ≡ done))
-    ⊎ ((place : ℕ) × (code : DefCode) × IsRefusedAt src place code
-    × (a ≡ refused name (place_at src place) code))
+-- a refusal in the file with this number, which is told by its name
+abbrev pub refused_in : List Text → List Text → ℕ → ℕ → DefCode → Answer
+refused_in names texts file place code =
+    refused (text_at names file) (place_at (text_at texts file) place) code
 
 -- a file that isn't there is a read fault, and one that is too long isn't judged
-abbrev pub Checked : Text → Option Text → Answer → Type 0
-Checked name None a = a ≡ read_fault name
-Checked name (Some src) a =
-    ((FILE_LIMIT < length src) × (a ≡ input_limit name))
-    ⊎ ((length src ≤ FILE_LIMIT) × Judged name src a)
+abbrev pub TellsUnread : Text → Option Text → Answer → Type 0
+TellsUnread name None a = a ≡ read_fault name
+TellsUnread name (Some text) a = (FILE_LIMIT < length text) × (a ≡ input_limit name)
 
--- words that are no command get the usage line, and `check` judges its file
-abbrev pub Obeys : FileMap → Option Command → Answer → Type 0
-Obeys files None a = a ≡ usage
-Obeys files (Some (Check def)) a = Checked def (files def) a
+-- The first of these names whose file isn't there or is too long, and the answer for it.
+pub record TellsFirstUnread (files : FileMap) (names : List Text) (a : Answer) : Type 0 where
+  pub number : ℕ
+  pub name : Text
+  pub reached : IsReached (IsRead files) names number name
+  pub unread : TellsUnread name (files name) a
+
+-- Texts that are refused, and the answer for the refusal.
+pub record TellsRefusal (natives : Predicates) (names texts : List Text) (a : Answer) : Type 0 where
+  pub file : ℕ
+  pub place : ℕ
+  pub code : DefCode
+  pub refused : AreRefusedAt natives texts file place code
+  pub is : a ≡ refused_in names texts file place code
+
+-- texts are accepted, or refused
+abbrev pub Judged : Predicates → List Text → List Text → Answer → Type 0
+Judged natives names texts a =
+    (AreDefinitions natives texts × (a ≡ done)) ⊎ TellsRefusal natives names texts a
+
+-- a file can't be read, or all are read, and their texts judged
+abbrev pub Checked : Predicates → FileMap → List Text → Answer → Type 0
+Checked natives files names a = TellsFirstUnread files names a
+    ⊎ ((texts : List Text) × AreTextsOf files names texts × Judged natives names texts a)
+
+-- words that are no command get the usage line, and `check` judges its files
+abbrev pub Obeys : Predicates → FileMap → Option Command → Answer → Type 0
+Obeys natives files None a = a ≡ usage
+Obeys natives files (Some (Check names)) a = Checked natives files names a
 
 -- the command names this file
 abbrev pub NamedBy : Option Command → Text → Type 0
@@ -114,14 +150,15 @@ pub record FaultsAt (command : Option Command) (a : Answer) : Type 0 where
   pub is : a ≡ read_fault name
 
 -- what is to be answered, or a read fault where reading failed by itself
-abbrev pub MayAnswer : FileMap → Type 0 → Option Command → Answer → Type 0
-MayAnswer files failed command a = Obeys files command a ⊎ (failed × FaultsAt command a)
+abbrev pub MayAnswer : Predicates → FileMap → Type 0 → Option Command → Answer → Type 0
+MayAnswer natives files failed command a =
+    Obeys natives files command a ⊎ (failed × FaultsAt command a)
 
--- the command names a file that is there, within the limit, and a definition file
-pub record Accepted (files : FileMap) (command : Option Command) : Type 0 where
-  pub def : Text
-  pub src : Text
-  pub spells : command ≡ Some (Check def)
-  pub has : files def ≡ Some src
-  pub within : length src ≤ FILE_LIMIT
-  pub accepted : IsDefinition src
+-- The command names files that are there, within the limit, and accepted.
+pub record Accepted (natives : Predicates) (files : FileMap) (command : Option Command)
+    : Type 0 where
+  pub names : List Text
+  pub texts : List Text
+  pub spells : command ≡ Some (Check names)
+  pub has : AreTextsOf files names texts
+  pub accepted : AreDefinitions natives texts

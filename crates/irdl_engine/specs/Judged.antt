@@ -1,16 +1,35 @@
--- What the bytes of a definition file are judged to be: a definition file, or refused at a place.
+-- What the texts of definition files are judged to be: definition files, or refused at a place.
 --
---   rule_of syntax              the rule that a refused token breaks
---   SpellsFile src defs         the tokens of src are this definition file, whatever it breaks
---   IsFaultOf defs              the faults of a definition file by itself, with no predicates
---   IsDefinition src            the tokens of src are a definition file that keeps the rules
---   IsSyntaxRefusal src place code, IsRuleRefusal src place code
---                               a token that no file has there, and the first broken rule
---   IsRefusedAt src place code  at this place src breaks this rule first: its first token that no
---                               definition file has there, or, where its tokens are a definition
---                               file, the first of its faults
-use Rattle.std.specs.Prelude.{◌≡◌, ◌⊎◌, ℕ, [], ◌∷◌}
+-- Syntax comes first: where each text spells a definition file, the rules are judged, over all
+-- files together.
+--
+--   Predicates, predicates names tests
+--                              what is known of the predicates that a program is given
+--   AreAccepted natives defs   these definition files keep all rules
+--   IsRefusedBy natives defs r r is the first rule that they break, with its file and place
+--   refusal_in file place code the refusal by this rule, in this file, at this place
+--   rule_of syntax             the rule that a refused token breaks
+--   SpellsFile src defs        the tokens of src are this definition file, whatever it breaks
+--   IsOfForm src               src spells some definition file
+--   IsTokenRefusal src place code
+--                              the token at this place is the first that no file has there
+--   SpellFiles texts defs      each text spells the file at its place
+--   AreDefinitions natives texts
+--                              the texts spell definition files that keep all rules
+--   IsSyntaxRefusal texts file place code
+--                              the first text that spells no file is this, and is refused there
+--   IsRuleRefusal natives texts file place code
+--                              all texts spell files, which break this rule first
+--   AreRefusedAt natives texts file place code
+--                              the texts are refused by this rule, at this place of the text with
+--                              this number, counted from 0
+use Rattle.std.specs.Prelude.{◌≡◌, ◌⊎◌, ℕ, List}
+use Rattle.std.specs.List.{AllZip}
 use Rattle.std.specs.declared.option.Option.TheVariants.{Some, None}
+use Rattle.attr_value.specs.Values.{Value}
+use Rattle.dialect_defs.specs.declared.definition.OpDef.{OpDef}
+use Rattle.dialect_defs.specs.declared.definition.TypeDef.{TypeDef}
+use Rattle.dialect_defs.specs.Assignments.{Tests}
 use Rattle.ir_lexer.specs.Spelling.{Text}
 use Rattle.ir_lexer.specs.Tokens.{AreTokens}
 use Rattle.grammar.specs.declared.stop.SyntaxCode.{SyntaxCode}
@@ -21,10 +40,39 @@ use Rattle.irdl_ops.specs.declared.raw.RawDefs.{RawDefs}
 use Rattle.irdl_ops.specs.Definitions.{DefText, TooDeepDef, IsFile}
 use Rattle.dialect_registry.specs.declared.code.DefCode.{DefCode}
 use Rattle.dialect_registry.specs.declared.code.DefCode.TheVariants as code
-use Rattle.dialect_registry.specs.Codes.{refusal}
-use Rattle.dialect_registry.specs.DefFaults.{IsFault}
-use Rattle.first_fault.specs.declared.fault.Fault.{Fault}
-use Rattle.first_fault.specs.Firsts.{IsFirst}
+use Rattle.dialect_registry.specs.declared.refusal.DefRefusal.{DefRefusal}
+use Rattle.dialect_registry.specs.Codes.{code_number}
+use Rattle.dialect_registry.specs.Loaded.{AreLoaded, IsRefusedBy as Refused}
+use Rattle.irdl_engine.specs.InOrder.{IsReached}
+
+-- ---- the rules
+
+-- What is known of the predicates that a program is given: their names, in order, and what each says
+-- of a value.
+pub record Predicates : Type 0 where
+  pub names : List Text
+  pub tests : Tests
+
+-- the predicates of these names, which say this
+abbrev pub predicates : List Text → Tests → Predicates
+predicates names tests = record { names = names; tests = tests }
+
+-- The definition files keep all rules: they are loaded, over some table of values.
+pub record AreAccepted (natives : Predicates) (defs : List RawDefs) : Type 0 where
+  pub values : List Value
+  pub types : List TypeDef
+  pub ops : List OpDef
+  pub loaded : AreLoaded defs natives.names natives.tests values types ops
+
+-- of all rules that they break this one is the first: in this file, at this place
+pub record IsRefusedBy (natives : Predicates) (defs : List RawDefs) (r : DefRefusal) : Type 0 where
+  pub refused : Refused defs natives.names natives.tests r
+
+-- the refusal by this rule, in the file with this number, at this place
+abbrev pub refusal_in : ℕ → ℕ → DefCode → DefRefusal
+refusal_in file place code = record { file = file; place = place; code = code_number code }
+
+-- ---- syntax
 
 -- the rule that a refused token breaks: a value nested too deep is a rule of its own
 abbrev pub rule_of : SyntaxCode → DefCode
@@ -39,30 +87,45 @@ pub record SpellsFile (src : Text) (defs : RawDefs) : Type 0 where
   pub are_tokens : AreTokens src tokens
   pub is_file : IsFile tokens defs
 
--- a fault of a definition file by itself, where the program is given no predicates
-abbrev pub IsFaultOf : RawDefs → Fault → Type 0
-IsFaultOf defs = IsFault (defs ∷ []) [] 0
-
--- A text that spells a definition file without a fault.
-pub record IsDefinition (src : Text) : Type 0 where
-  pub defs : RawDefs
-  pub spells : SpellsFile src defs
-  pub faultless : IsFirst (IsFaultOf defs) None
+-- the text spells a definition file
+abbrev pub IsOfForm : Text → Type 0
+IsOfForm src = (defs : RawDefs) × SpellsFile src defs
 
 -- The tokens of a text, the first of them that no definition file has there, and its rule.
-pub record IsSyntaxRefusal (src : Text) (place : ℕ) (code : DefCode) : Type 0 where
+pub record IsTokenRefusal (src : Text) (place : ℕ) (code : DefCode) : Type 0 where
   pub tokens : Tokens
   pub are_tokens : AreTokens src tokens
   pub syntax : SyntaxCode
   pub refusal : IsRefusal DefText TooDeepDef tokens place syntax
   pub rule : code ≡ rule_of syntax
 
--- A text that spells a definition file, and the first of its faults.
-pub record IsRuleRefusal (src : Text) (place : ℕ) (code : DefCode) : Type 0 where
-  pub defs : RawDefs
-  pub spells : SpellsFile src defs
-  pub first : IsFirst (IsFaultOf defs) (Some (refusal place code))
+-- ---- texts
 
--- The text is refused at this place by this rule: for a token, or for what the file says.
-abbrev pub IsRefusedAt : Text → ℕ → DefCode → Type 0
-IsRefusedAt src place code = IsSyntaxRefusal src place code ⊎ IsRuleRefusal src place code
+-- each text spells the file at its place, and there are as many
+abbrev pub SpellFiles : List Text → List RawDefs → Type 0
+SpellFiles texts defs = AllZip SpellsFile texts defs
+
+-- Texts that spell definition files, which keep all rules.
+pub record AreDefinitions (natives : Predicates) (texts : List Text) : Type 0 where
+  pub defs : List RawDefs
+  pub spelled : SpellFiles texts defs
+  pub accepted : AreAccepted natives defs
+
+-- The first text that spells no definition file, and where it is refused.
+pub record IsSyntaxRefusal (texts : List Text) (file place : ℕ) (code : DefCode) : Type 0 where
+  pub text : Text
+  pub reached : IsReached IsOfForm texts file text
+  pub refused : IsTokenRefusal text place code
+
+-- Texts that spell definition files, and the first rule that these break.
+pub record IsRuleRefusal (natives : Predicates) (texts : List Text) (file place : ℕ)
+    (code : DefCode) : Type 0 where
+  pub defs : List RawDefs
+  pub spelled : SpellFiles texts defs
+  pub refused : IsRefusedBy natives defs (refusal_in file place code)
+
+-- The texts are refused by this rule in this file, at this place: for a token, or for what the
+-- files say.
+abbrev pub AreRefusedAt : Predicates → List Text → ℕ → ℕ → DefCode → Type 0
+AreRefusedAt natives texts file place code =
+    IsSyntaxRefusal texts file place code ⊎ IsRuleRefusal natives texts file place code

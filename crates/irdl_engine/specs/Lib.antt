@@ -1,6 +1,8 @@
 pub mod Answer
 pub mod Command
 pub mod Judged
+pub mod Reading
+pub mod InOrder
 pub mod Words
 pub mod Writes
 pub mod Numbers

@@ -2,7 +2,7 @@
 --
 --   FilesSeen, files_seen   the files before and after the call
 --   SinkSeen, sink_seen     a stream before and after the call
---   Obeyed command status files out err
+--   Obeyed natives command status files out err
 --                           the call did what the command asks for, and gave this status
 --
 -- Inside: no public clause rests on this. `run` says the parts of `Obeyed` as clauses of its own.
@@ -15,6 +15,7 @@ use Rattle.irdl_engine.specs.declared.status.Status.{Status}
 use Rattle.irdl_engine.specs.declared.status.Status.TheVariants.{Usage, ReadFault, WriteFault}
 use Rattle.irdl_engine.specs.Answer.{usage}
 use Rattle.irdl_engine.specs.Command.{Command}
+use Rattle.irdl_engine.specs.Judged.{Predicates}
 use Rattle.irdl_engine.specs.Writes.{Change, change, GotNothing, Says, MayGive}
 
 -- files before a call and after it
@@ -52,11 +53,11 @@ sink_seen written faults old new = record {
 }
 
 -- The call did what the command asks for, which is nothing where the words are no command.
-pub record Obeyed (command : Option Command) (status : Status) (files : FilesSeen)
-    (out err : SinkSeen) : Type 0 where
+pub record Obeyed (natives : Predicates) (command : Option Command) (status : Status)
+    (files : FilesSeen) (out err : SinkSeen) : Type 0 where
   -- an answer that may be planned was given, for files that tell their bytes
   pub planned : IfSome files.told (λ m.
-      MayGive m (FaultsByItself files.steady files.before files.after) command status
+      MayGive natives m (FaultsByItself files.steady files.before files.after) command status
       out.bytes err.bytes)
   -- told or not, the usage line is written exactly for words that are no command
   pub no_command : command ≡ None → Says usage.status usage.err status err.bytes

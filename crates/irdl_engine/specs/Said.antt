@@ -1,42 +1,152 @@
--- The answer that the outcome of a file stands for, and what a judgement says of the bytes.
+-- What the calls inside say of files and texts: the answer that a stop stands for, and what was
+-- read and judged where nothing stopped them.
 --
---   said name o        the answer for a file of this name with the outcome o
---   StandsAt src r at  the refusal r stands at this place of the text src
---   Shows src r        the text src is refused as the refusal r says
---   IsVerdict src v    v is the judgement of the text src
+--   bytes_of texts          the bytes of each text that the code holds
+--   said names stop         the answer for a stop over files of these names, but for want of memory
+--   answer_of names r       the same of what a call gave, which is done where nothing stopped it
+--   IsWithin count stop     the file that the stop tells is one of so many
+--   IsUnreadable stop       a file couldn't be opened or read
+--   AreShort texts          no text is longer than the limit
+--   AreWhole told names texts
+--                           the texts are those of files of these names, read whole
+--   ReadsText files name file r
+--                           r is what the reading of the file with this name and number gave
+--   MayStop files failed names a
+--                           a tells the first file that can't be read, or a read fault
+--   IsReadingStop files names stop
+--                           the stop tells why files of these names weren't read
+--   StandsAt src r at       the refusal r stands at this place of the text src
+--   IsRefusedToken src file r
+--                           the text is refused for a token, as that of the file with this number
+--   IsTreeOf src file r     r is the tree that a text spells, or its refusal for a token
+--   Shows natives texts r   the texts are refused as the refusal r says
+--   IsVerdict natives texts r
+--                           r is the judgement of the texts
 --
 -- Inside: no public clause rests on this.
-use Rattle.std.specs.Prelude.{ℕ, ◌≡◌}
+use Rattle.std.specs.Prelude.{ℕ, ◌≡◌, ◌⊎◌, ◌<◌, ◌≤◌, ⊤, List, length, map, IsTrue, IfSome, slice_get}
+use Rattle.std.specs.declared.alloc.Global.{Global}
 use Rattle.std.specs.declared.option.Option.{Option}
 use Rattle.std.specs.declared.option.Option.TheVariants.{Some, None}
+use Rattle.std.specs.declared.result.Result.{Result}
+use Rattle.std.specs.declared.result.Result.TheVariants.{Ok, Err}
+use Rattle.std.specs.declared.vec.Vec.{Vec}
+use Rattle.irdl_bytes.specs.Outside.{FileMap, Rose, FaultsByItself, Lacks}
+use Rattle.irdl_bytes.specs.declared.whole.TheConstants.{FILE_LIMIT}
 use Rattle.ir_lexer.specs.Place.{line_at, column_at}
 use Rattle.ir_lexer.specs.Spelling.{Text}
-use Rattle.irdl_engine.specs.declared.outcome.FileOutcome.{FileOutcome}
-use Rattle.irdl_engine.specs.declared.outcome.FileOutcome.TheVariants.{Accepted, Unreadable}
-use Rattle.irdl_engine.specs.declared.outcome.FileOutcome.TheVariants.{TooLong, Refused}
-use Rattle.irdl_engine.specs.declared.outcome.Refusal.{Refusal}
+use Rattle.irdl_ops.specs.declared.raw.RawDefs.{RawDefs}
+use Rattle.irdl_engine.specs.declared.stop.Refusal.{Refusal}
+use Rattle.irdl_engine.specs.declared.stop.Stop.{Stop}
+use Rattle.irdl_engine.specs.declared.stop.Stop.TheVariants.{Unreadable, TooLong, Refused, OutOfMemory}
 use Rattle.irdl_engine.specs.Answer.{Answer, done, read_fault, input_limit, refused}
-use Rattle.irdl_engine.specs.Judged.{IsDefinition, IsRefusedAt}
+use Rattle.irdl_engine.specs.Answer.{FaultsAt, TellsUnread, TellsFirstUnread}
+use Rattle.irdl_engine.specs.Command.{Check}
+use Rattle.irdl_engine.specs.InOrder.{text_at}
+use Rattle.irdl_engine.specs.Judged.{Predicates, AreDefinitions, AreRefusedAt, SpellsFile, IsTokenRefusal}
+use Rattle.irdl_engine.specs.Obeyed.{FilesSeen}
+use Rattle.irdl_engine.specs.Reading.{AreTextsOf}
 
--- the answer for a file of this name and its outcome
-abbrev pub said : Text → FileOutcome → Answer
-said name Accepted = done
-said name Unreadable = read_fault name
-said name TooLong = input_limit name
-said name (Refused r) = refused name r.place r.code
+-- the bytes of each text that the code holds
+abbrev pub bytes_of : List (Vec ℕ Global) → List Text
+bytes_of texts = map (λ text. text.items) texts
+
+-- ---- answers
+
+-- the answer for a stop over files of these names; want of memory has none
+abbrev pub said : List Text → Stop → Option Answer
+said names (Unreadable file) = Some (read_fault (text_at names file))
+said names (TooLong file) = Some (input_limit (text_at names file))
+said names (Refused r) = Some (refused (text_at names r.file) r.place r.code)
+said names OutOfMemory = None
+
+-- all is well where nothing stopped the call
+abbrev pub answer_of : List Text → Result (Unit {0}) Stop → Option Answer
+answer_of names (Ok ok) = Some done
+answer_of names (Err stop) = said names stop
+
+-- the file that the stop tells is one of so many
+abbrev pub IsWithin : ℕ → Stop → Type 0
+IsWithin count (Unreadable file) = file < count
+IsWithin count (TooLong file) = file < count
+IsWithin count (Refused r) = r.file < count
+IsWithin count OutOfMemory = ⊤
+
+-- a file couldn't be opened or read
+abbrev pub IsUnreadable : Stop → Type 0
+IsUnreadable (Unreadable file) = ⊤
+IsUnreadable _ = ⊥
+
+-- ---- reading
+
+-- no text is longer than the limit
+abbrev pub AreShort : List Text → Type 0
+AreShort texts = (n : ℕ) (text : Text) → slice_get texts n ≡ Some text → length text ≤ FILE_LIMIT
+
+-- There is a text for each name, and none is longer than the limit. Where the files tell their
+-- bytes, the texts are these.
+pub record AreWhole (told : Option FileMap) (names texts : List Text) : Type 0 where
+  pub count : length texts ≡ length names
+  pub short : AreShort texts
+  pub right : IfSome told (λ files. AreTextsOf files names texts)
+
+-- What the reading of one file gave. Where the files tell their bytes, a text that was read is the
+-- file's, and a file that is too long is longer than the limit. A read fault has its cause, and
+-- steady files lack the name then.
+abbrev pub ReadsText : FilesSeen → Text → ℕ → Result (Vec ℕ Global) Stop → Type 0
+ReadsText files name file (Ok text) =
+    (length text.items ≤ FILE_LIMIT) × IfSome files.told (λ m. m name ≡ Some text.items)
+ReadsText files name file (Err (Unreadable n)) =
+    (n ≡ file) × Rose files.before files.after × (IsTrue files.steady → Lacks files.told name)
+ReadsText files name file (Err (TooLong n)) =
+    (n ≡ file) × IfSome files.told (λ m. TellsUnread name (m name) (input_limit name))
+ReadsText files name file (Err (Refused r)) = ⊥
+ReadsText files name file (Err OutOfMemory) = ⊤
+
+-- the first file that can't be read is told, or, where reading failed by itself, a read fault
+abbrev pub MayStop : FileMap → Type 0 → List Text → Answer → Type 0
+MayStop files failed names a =
+    TellsFirstUnread files names a ⊎ (failed × FaultsAt (Some (Check names)) a)
+
+-- A stop while files of these names were read: it tells one of them, where the files tell their
+-- bytes the right one, and a read fault has its cause.
+pub record IsReadingStop (files : FilesSeen) (names : List Text) (stop : Stop) : Type 0 where
+  pub within : IsWithin (length names) stop
+  pub right : IfSome files.told (λ m. IfSome (said names stop)
+      (MayStop m (FaultsByItself files.steady files.before files.after) names))
+  pub cause : IsUnreadable stop → Rose files.before files.after
+
+-- ---- judging
 
 -- a refusal stands at the line and the column of this place
 pub record StandsAt (src : Text) (r : Refusal) (at : ℕ) : Type 0 where
   pub line : r.place.line ≡ line_at src at
   pub column : r.place.column ≡ column_at src at
 
--- the text is refused as the refusal says
-pub record Shows (src : Text) (r : Refusal) : Type 0 where
+-- the text is refused for a token, in the file with this number, as the refusal says
+pub record IsRefusedToken (src : Text) (file : ℕ) (r : Refusal) : Type 0 where
+  pub in_file : r.file ≡ file
   pub at : ℕ
-  pub refused : IsRefusedAt src at r.code
+  pub refused : IsTokenRefusal src at r.code
   pub stands : StandsAt src r at
 
--- no refusal, exactly where the bytes are a definition file; else the refusal
-abbrev pub IsVerdict : Text → Option Refusal → Type 0
-IsVerdict src None = IsDefinition src
-IsVerdict src (Some r) = Shows src r
+-- the tree that a text spells, or its refusal, as that of the file with this number
+abbrev pub IsTreeOf : Text → ℕ → Result RawDefs Stop → Type 0
+IsTreeOf src file (Ok defs) = SpellsFile src defs
+IsTreeOf src file (Err (Refused r)) = IsRefusedToken src file r
+IsTreeOf src file (Err OutOfMemory) = ⊤
+IsTreeOf src file (Err _) = ⊥
+
+-- the texts are refused as the refusal says
+pub record Shows (natives : Predicates) (texts : List Text) (r : Refusal) : Type 0 where
+  pub at : ℕ
+  pub refused : AreRefusedAt natives texts r.file at r.code
+  pub stands : StandsAt (text_at texts r.file) r at
+
+-- nothing stops the judgement exactly where the texts are definition files; else the refusal does,
+-- or want of memory
+abbrev pub IsVerdict : Predicates → List Text → Result (Unit {0}) Stop → Type 0
+IsVerdict natives texts (Ok ok) = AreDefinitions natives texts
+IsVerdict natives texts (Err (Refused r)) = Shows natives texts r
+IsVerdict natives texts (Err OutOfMemory) = ⊤
+IsVerdict natives texts (Err _) = ⊥

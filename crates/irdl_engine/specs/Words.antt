@@ -15,4 +15,4 @@ texts words = map (λ w. w.now) words
 
 -- the command of the definitions that the code's command stands for
 abbrev pub spelled : Command → spec.Command
-spelled (Check def) = spec.Check def.now
+spelled (Check defs) = spec.Check (texts defs.now)

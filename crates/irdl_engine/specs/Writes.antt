@@ -7,9 +7,9 @@
 --   GivesAll a ..     the answer a was given
 --   GivesFronts a ..  a write failed, and each sink got a front of what a has for it
 --   GivesUp ..        memory ran out, and nothing was written
---   GivesPlanned files failed command ..
+--   GivesPlanned natives files failed command ..
 --                     an answer that may be planned was given, whole or in part
---   MayGive files failed command ..
+--   MayGive natives files failed command ..
 --                     the same, or memory ran out
 --   Says s t r e      the line t was written to e and the status r is s, or a write failed after a
 --                     front of it
@@ -22,6 +22,7 @@ use Rattle.irdl_engine.specs.declared.status.Status.{Status}
 use Rattle.irdl_engine.specs.declared.status.Status.TheVariants.{WriteFault, OutOfMemory}
 use Rattle.irdl_engine.specs.Answer.{Answer, MayAnswer}
 use Rattle.irdl_engine.specs.Command.{Command}
+use Rattle.irdl_engine.specs.Judged.{Predicates}
 
 -- the bytes of a sink before a call and after it, where it tells them
 pub record Change : Type 0 where
@@ -64,16 +65,17 @@ pub record GivesUp (status : Status) (out err : Change) : Type 0 where
   pub err_kept : GotNothing err
 
 -- an answer that may be planned was given, whole or in part
-pub record GivesPlanned (files : FileMap) (failed : Type 0) (command : Option Command)
-    (status : Status) (out err : Change) : Type 0 where
+pub record GivesPlanned (natives : Predicates) (files : FileMap) (failed : Type 0)
+    (command : Option Command) (status : Status) (out err : Change) : Type 0 where
   pub answer : Answer
-  pub planned : MayAnswer files failed command answer
+  pub planned : MayAnswer natives files failed command answer
   pub given : GivesAll answer status out err ⊎ GivesFronts answer status out err
 
 -- an answer that may be planned was given, or memory ran out
-abbrev pub MayGive : FileMap → Type 0 → Option Command → Status → Change → Change → Type 0
-MayGive files failed command status out err =
-    GivesPlanned files failed command status out err ⊎ GivesUp status out err
+abbrev pub MayGive : Predicates → FileMap → Type 0 → Option Command → Status → Change → Change
+    → Type 0
+MayGive natives files failed command status out err =
+    GivesPlanned natives files failed command status out err ⊎ GivesUp status out err
 
 -- the line was written and the planned status answered, or a write failed after a front of it
 abbrev pub Says : Status → Text → Status → Change → Type 0

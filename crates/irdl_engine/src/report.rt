@@ -1,14 +1,16 @@
 //! The line that standard error gets.
 
-ghost use Rattle.std.specs.Prelude.{◌≡◌, ◌≢◌, ◌≤◌, ◌⊎◌, []};
+ghost use Rattle.std.specs.Prelude.{◌≡◌, ◌<◌, ◌≤◌, ◌⊎◌, MatchOption, length};
 ghost use Rattle.std.specs.List.{flat_map};
 ghost use Rattle.irdl_bytes.specs.Outside.{Rose};
-ghost use Rattle.irdl_engine.specs.Answer.{usage, refused};
-ghost use Rattle.irdl_engine.specs.Said.{said};
+ghost use Rattle.irdl_engine.specs.Answer.{usage, name_line, refused};
+ghost use Rattle.irdl_engine.specs.InOrder.{text_at};
+ghost use Rattle.irdl_engine.specs.Said.{said, IsWithin};
+ghost use Rattle.irdl_engine.specs.Words.{texts};
 ghost use Rattle.irdl_engine.specs.Writes.{Says, change};
 
-use crate::outcome::{FileOutcome, Refusal};
 use crate::status::Status;
+use crate::stop::{Refusal, Stop};
 use irdl_bytes::Sink;
 use itoa::Buffer;
 use text_layout::{write_pieces, write_refusal};
@@ -41,32 +43,61 @@ pub fn report_usage<S: Sink>(err: &mut S) -> Status
     say(err, Status::Usage, &[USAGE.as_bytes()])
 }
 
-/// Writes the line of the outcome of a file, if it has one. Else nothing can fail.
-#[tactic(auto, using(crate::proofs::Lines::lines))]
-pub fn report<S: Sink>(err: &mut S, name: &str, outcome: &FileOutcome) -> Status
-    ensures quiet { (said name.now outcome.now).err ≡ [] → result ≢ Status.WriteFault }
-    ensures says { Says (said name.now outcome.now).status (said name.now outcome.now).err result
-        (change (S.written err.old) (S.written err.new)) }
+/// The name of the file with this number.
+fn name_of<'a>(names: &[&'a str], file: usize) -> &'a str
+    requires { file < length names.now }
+    ensures { result.now ≡ text_at (texts names.now) file }
+{
+    names[file]
+}
+
+/// Writes the line of a stop over files of these names, if it has one. Else nothing can fail.
+pub fn report<S: Sink>(err: &mut S, names: &[&str], stop: &Stop) -> Status
+    requires { IsWithin (length names.now) stop.now }
+    ensures says { MatchOption (said (texts names.now) stop.now)
+        ((result ≡ Status.OutOfMemory) × (S.written err.new ≡ S.written err.old))
+        (λ a. Says a.status a.err result (change (S.written err.old) (S.written err.new))) }
     ensures fault { result ≡ Status.WriteFault → Rose (S.faults err.old) (S.faults err.new) }
     ensures later { S.faults err.old ≤ S.faults err.new }
 {
-    match outcome {
-        FileOutcome::Accepted => Status::Done,
-        FileOutcome::Unreadable => say(
-            err,
-            Status::ReadFault,
-            &["read fault: ".as_bytes(), name.as_bytes(), "\n".as_bytes()],
-        ),
-        FileOutcome::TooLong => say(
-            err,
-            Status::InputLimit,
-            &["input limit: ".as_bytes(), name.as_bytes(), "\n".as_bytes()],
-        ),
-        FileOutcome::Refused(refusal) => report_refusal(err, name, refusal),
+    match stop {
+        Stop::Unreadable(file) => {
+            report_name(
+                err,
+                Status::ReadFault,
+                "read fault: ",
+                name_of(names, *file),
+            )
+        }
+        Stop::TooLong(file) => {
+            report_name(
+                err,
+                Status::InputLimit,
+                "input limit: ",
+                name_of(names, *file),
+            )
+        }
+        Stop::Refused(refusal) => report_refusal(err, name_of(names, refusal.file), refusal),
+        Stop::OutOfMemory => Status::OutOfMemory,
     }
 }
 
-/// Writes the line of a refusal.
+/// Writes a title and a name.
+fn report_name<S: Sink>(err: &mut S, status: Status, title: &str, name: &str) -> Status
+    ensures says { Says status (name_line title.now name.now) result
+        (change (S.written err.old) (S.written err.new)) }
+    ensures fault { result ≡ Status.WriteFault →
+        (status ≡ Status.WriteFault) ⊎ Rose (S.faults err.old) (S.faults err.new) }
+    ensures later { S.faults err.old ≤ S.faults err.new }
+{
+    say(
+        err,
+        status,
+        &[title.as_bytes(), name.as_bytes(), "\n".as_bytes()],
+    )
+}
+
+/// Writes the line of a refusal in a file of this name.
 fn report_refusal<S: Sink>(err: &mut S, name: &str, refusal: &Refusal) -> Status
     ensures says { let a = refused name.now refusal.now.place refusal.now.code in
         Says a.status a.err result (change (S.written err.old) (S.written err.new)) }
@@ -75,7 +106,14 @@ fn report_refusal<S: Sink>(err: &mut S, name: &str, refusal: &Refusal) -> Status
 {
     let mut number = Buffer::new();
     let code = number.format(refusal.code.number());
-    match write_refusal(err, name, refusal.place, code, refusal.code.name(), "") {
+    match write_refusal(
+        err,
+        name,
+        refusal.place,
+        code,
+        refusal.code.name(),
+        refusal.code.detail(),
+    ) {
         Ok(()) => Status::DefinitionRefused,
         Err(_) => Status::WriteFault,
     }

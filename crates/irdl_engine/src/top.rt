@@ -5,15 +5,18 @@ ghost use Rattle.std.specs.Io.KnownBytes.{Keeps};
 ghost use Rattle.irdl_bytes.specs.Outside.{Rose, FaultsByItself};
 ghost use Rattle.irdl_engine.specs.Command.{command_of};
 ghost use Rattle.irdl_engine.specs.Answer.{Answer, Obeys, Accepted, usage};
+ghost use Rattle.irdl_engine.specs.Judged.{predicates};
 ghost use Rattle.irdl_engine.specs.Obeyed.{Obeyed, files_seen, sink_seen};
 ghost use Rattle.irdl_engine.specs.Words.{texts};
 ghost use Rattle.irdl_engine.specs.Writes.{MayGive, Says, change};
+ghost use Rattle.native_predicate.specs.Lists.{names, tests};
 
 use crate::check::check;
 use crate::command::{Command, read_command};
 use crate::report::report_usage;
 use crate::status::Status;
 use irdl_bytes::{Files, Sink};
+use native_predicate::Natives;
 use std::alloc::Global;
 
 // As `run`, without what follows from it.
@@ -21,43 +24,49 @@ use std::alloc::Global;
 fn obey<F: Files, O: Sink, E: Sink>(
     alloc: Global,
     words: &[&str],
+    natives: &Natives,
     files: &mut F,
     out: &mut O,
     err: &mut E,
 ) -> Status
-    ensures { Obeyed (command_of (texts words.now)) result
+    ensures { Obeyed (predicates (names title natives.now) (tests property natives.now))
+        (command_of (texts words.now)) result
         (files_seen F.file_map F.steady F.faults files.old files.new)
         (sink_seen O.written O.faults out.old out.new)
         (sink_seen E.written E.faults err.old err.new) }
 {
     match read_command(words) {
         None => report_usage(err),
-        Some(Command::Check(def)) => check(alloc, def, files, out, err),
+        Some(Command::Check(defs)) => check(alloc, defs, natives, files, out, err),
     }
 }
 
 /// Does what the words ask for, and writes what is to be written.
 ///
-/// The words are those behind the program's name. Standard output is `out`, standard error `err`.
+/// The words are those behind the program's name, and the predicates those that definitions may
+/// name. Standard output is `out`, standard error `err`.
 #[tactic(auto, using(crate::proofs::Whole::whole))]
 pub fn run<F: Files, O: Sink, E: Sink>(
     alloc: Global,
     words: &[&str],
+    natives: &Natives,
     files: &mut F,
     out: &mut O,
     err: &mut E,
 ) -> Status
     // What is answered and written, for files that tell their bytes.
     ensures planned { IfSome (F.file_map files.old) (λ m.
-        MayGive m (FaultsByItself (F.steady files.old) (F.faults files.old) (F.faults files.new))
+        MayGive (predicates (names title natives.now) (tests property natives.now)) m
+        (FaultsByItself (F.steady files.old) (F.faults files.old) (F.faults files.new))
         (command_of (texts words.now)) result
         (change (O.written out.old) (O.written out.new))
         (change (E.written err.old) (E.written err.new))) }
 
-    // The words and the bytes told leave no choice of what is to be answered.
+    // The words, the predicates and the bytes told leave no choice of what is to be answered.
     ensures single { IfSome (F.file_map files.old) (λ m. (a b : Answer) →
-        Obeys m (command_of (texts words.now)) a →
-        Obeys m (command_of (texts words.now)) b → a ≡ b) }
+        let known = predicates (names title natives.now) (tests property natives.now) in
+        Obeys known m (command_of (texts words.now)) a →
+        Obeys known m (command_of (texts words.now)) b → a ≡ b) }
 
     // Told or not, the usage line is written exactly for words that are no command.
     ensures no_command { command_of (texts words.now) ≡ None →
@@ -70,10 +79,11 @@ pub fn run<F: Files, O: Sink, E: Sink>(
     ensures write_fault { result ≡ Status.WriteFault →
         Rose (O.faults out.old) (O.faults out.new) ⊎ Rose (E.faults err.old) (E.faults err.new) }
 
-    // An accepted file is accepted, unless reading it failed or memory ran out. There is nothing to
-    // write, so no stream's fault matters.
+    // Accepted files are accepted, unless reading them failed or memory ran out. There is nothing
+    // to write, so no stream's fault matters.
     ensures complete { IfSome (F.file_map files.old) (λ m.
-        Accepted m (command_of (texts words.now)) →
+        Accepted (predicates (names title natives.now) (tests property natives.now)) m
+        (command_of (texts words.now)) →
         IsTrue (F.steady files.old) ⊎ ¬ Rose (F.faults files.old) (F.faults files.new) →
         (result ≡ Status.Done) ⊎ (result ≡ Status.OutOfMemory)) }
 
@@ -81,5 +91,5 @@ pub fn run<F: Files, O: Sink, E: Sink>(
     ensures silent { Keeps (O.written out.old) (O.written out.new) }
     ensures untouched { O.faults out.new ≡ O.faults out.old }
 {
-    obey(alloc, words, files, out, err)
+    obey(alloc, words, natives, files, out, err)
 }

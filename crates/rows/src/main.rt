@@ -4,16 +4,19 @@
 //! that it has to answer. Each line of `rows.txt` is a row or the name of a drawn file; an empty
 //! line, and one that begins with `#`, is neither.
 //!
-//! A row is `words ; plan ; status ; out ; err ; text`. The text is that of the file `f.irdl`. In
-//! it, and in what standard output and standard error have to get, `\n` is a line feed and `\xHH`
-//! the byte of this number; spaces at the ends don't count. The word `''` is the empty one. A plan
-//! has any of these items, each behind a space:
+//! A row is `words ; plan ; status ; out ; err ; text`, and may have a second and a third text, each
+//! behind one `;` more. The texts are those of the files `f.irdl`, `g.irdl` and `h.irdl`. In them,
+//! and in what standard output and standard error have to get, `\n` is a line feed and `\xHH` the
+//! byte of this number; spaces at the ends don't count. The word `''` is the empty one. A plan has
+//! any of these items, each behind a space:
 //!
-//! - `spaces=N`: so many spaces stand behind the text;
+//! - `spaces=N`: so many spaces stand behind the first text;
 //! - `call=N`: call number N of the files fails;
 //! - `write=N`: write number N to standard error fails;
 //! - `fronts`: the row is also run with each standard error that has too little room for what it is
 //!   to get. It gets as much as has room then, and the status is 5.
+//!
+//! The program is given the predicates that the tool is given.
 //!
 //! A drawn file is a definition file that is checked by its own name. Where it is refused, the
 //! comment `//    ^ error CODE NAME` stands on the line below the token, with the caret below the
@@ -27,6 +30,9 @@ mod trial;
 use crate::row::Row;
 use crate::trial::differs;
 use anyhow::{Context, Result};
+use native_predicate::{
+    IsFloat, IsNonempty, IsPositive, IsSignless, IsStatic, IsType, NativePredicate, Natives,
+};
 use std::fs;
 
 /// What stands between the parts of a drawn file.
@@ -47,19 +53,33 @@ impl Tally {
 }
 
 fn main(rt: HostRuntime) -> Result<()> {
-    let list = fs::read_to_string(&rt, "rows.txt").context("reading rows.txt")?;
+    let alloc = rt.alloc();
+    let mut list: Vec<Box<dyn NativePredicate>> = Vec::new(alloc);
+    list.push(Box::new(alloc, IsType::new())?)?;
+    list.push(Box::new(alloc, IsFloat::new())?)?;
+    list.push(Box::new(alloc, IsSignless::new())?)?;
+    list.push(Box::new(alloc, IsPositive::new())?)?;
+    list.push(Box::new(alloc, IsNonempty::new())?)?;
+    list.push(Box::new(alloc, IsStatic::new())?)?;
+    let Tally { rows, differ } = run_rows(&rt, &Natives::new(list))?;
+    println!(rt; "{rows} rows, {differ} differ")?;
+    Ok(())
+}
+
+/// Runs all rows over a program that is given these predicates.
+fn run_rows(rt: &HostRuntime, natives: &Natives) -> Result<Tally> {
+    let list = fs::read_to_string(rt, "rows.txt").context("reading rows.txt")?;
     let mut tally = Tally { rows: 0, differ: 0 };
     for line in list.as_str().lines() {
         if line.contains(';') && !line.starts_with('#') {
-            tally.add(differs(&rt, &Row::listed(rt.alloc(), line)?)?);
+            tally.add(differs(rt, natives, &Row::listed(rt.alloc(), line)?)?);
         } else if !line.is_empty() && !line.starts_with('#') {
-            let file = fs::read_to_string(&rt, line).context("reading a drawn file")?;
+            let file = fs::read_to_string(rt, line).context("reading a drawn file")?;
             for part in file.as_str().split(SEAM) {
-                tally.add(differs(&rt, &Row::drawn(rt.alloc(), line, part)?)?);
+                let row = Row::drawn(rt.alloc(), line, part)?;
+                tally.add(differs(rt, natives, &row)?);
             }
         }
     }
-    let Tally { rows, differ } = tally;
-    println!(rt; "{rows} rows, {differ} differ")?;
-    Ok(())
+    Ok(tally)
 }

@@ -4,18 +4,23 @@ use crate::plan::Plan;
 use anyhow::{Context, Result, bail};
 use std::alloc::{AllocError, Global};
 
-/// The name of the file of a listed row.
-const LISTED_NAME: &str = "f.irdl";
+/// The names of the files of a listed row, in the order of its texts.
+const LISTED_NAMES: [&str; 3] = ["f.irdl", "g.irdl", "h.irdl"];
 
-/// A run of the program over one file, and what it has to answer.
+/// A file in memory.
+#[derive(Drop)]
+pub struct File<'a> {
+    pub name: &'a str,
+    pub text: Vec<u8>,
+}
+
+/// A run of the program over files, and what it has to answer.
 #[derive(Drop)]
 pub struct Row<'a> {
     /// The row as it is told where it differs.
     pub title: &'a str,
     pub words: Vec<&'a str>,
-    /// The name of the file.
-    pub name: &'a str,
-    pub text: Vec<u8>,
+    pub files: Vec<File<'a>>,
     pub plan: Plan,
     pub status: u8,
     /// What standard output has to get.
@@ -27,23 +32,15 @@ pub struct Row<'a> {
 impl<'a> Row<'a> {
     /// The row of a line of the list.
     pub fn listed(alloc: Global, line: &'a str) -> Result<Row<'a>> {
-        let fields: Vec<&str> = line
-            .splitn(6, ';')
-            .map(|field| field.trim())
-            .collect(alloc)?;
-        let [words, plan, status, out, err, text] = fields.as_slice() else {
-            bail!("a row has six fields: {line}");
+        let fields: Vec<&str> = line.split(';').map(|field| field.trim()).collect(alloc)?;
+        let [words, plan, status, out, err, texts @ ..] = fields.as_slice() else {
+            bail!("a row has five fields before its texts: {line}");
         };
         let plan = Plan::of_items(plan)?;
-        let mut text = unescaped(alloc, text)?;
-        for _ in 0..plan.spaces {
-            text.push(b' ')?;
-        }
         Ok(Row {
             title: line,
             words: words_of(alloc, words)?,
-            name: LISTED_NAME,
-            text,
+            files: listed_files(alloc, texts, plan.spaces)?,
             plan,
             status: status.parse()?,
             out: unescaped(alloc, out)?,
@@ -54,17 +51,35 @@ impl<'a> Row<'a> {
     /// The row of a part of a drawn file.
     pub fn drawn(alloc: Global, name: &'a str, part: &'a str) -> Result<Row<'a>> {
         let err = drawn_line(alloc, name, part)?;
+        let text = part.as_bytes().to_vec(alloc)?;
         Ok(Row {
             title: part,
             words: vec![in alloc; "check", name]?,
-            name,
-            text: part.as_bytes().to_vec(alloc)?,
+            files: vec![in alloc; File { name, text }]?,
             plan: Plan::default(),
             status: if err.is_empty() { 0 } else { 1 },
             out: Vec::new(alloc),
             err,
         })
     }
+}
+
+/// The files of these texts. So many spaces stand behind the first.
+fn listed_files(alloc: Global, texts: &[&str], spaces: u64) -> Result<Vec<File<'static>>> {
+    let mut files = Vec::new(alloc);
+    for (file, text) in texts.iter().enumerate() {
+        let name = *LISTED_NAMES
+            .get(file)
+            .context("a row has three texts at most")?;
+        let mut text = unescaped(alloc, text)?;
+        if file == 0 {
+            for _ in 0..spaces {
+                text.push(b' ')?;
+            }
+        }
+        files.push(File { name, text })?;
+    }
+    Ok(files)
 }
 
 fn words_of<'a>(alloc: Global, words: &'a str) -> Result<Vec<&'a str>, AllocError> {

@@ -4,6 +4,7 @@ use crate::row::Row;
 use anyhow::Result;
 use irdl_bytes::{MemFiles, MemSink};
 use irdl_engine::run;
+use native_predicate::Natives;
 use std::alloc::Global;
 
 /// How many bytes standard error takes where no fault is planned.
@@ -13,19 +14,26 @@ const ROOM: u64 = 4096;
 const WRITE_FAULT: u8 = 5;
 
 /// Runs a row, and says whether an answer differs from it. What differs is printed.
-pub fn differs(rt: &HostRuntime, row: &Row<'_>) -> Result<bool> {
-    let mut any = run_differs(rt, row, ROOM, row.status, &row.err)?;
+pub fn differs(rt: &HostRuntime, natives: &Natives, row: &Row<'_>) -> Result<bool> {
+    let mut any = run_differs(rt, natives, row, ROOM, row.status, &row.err)?;
     if row.plan.fronts {
         for room in 0..row.err.len() {
-            any |= run_differs(rt, row, room as u64, WRITE_FAULT, &row.err[..room])?;
+            any |= run_differs(rt, natives, row, room as u64, WRITE_FAULT, &row.err[..room])?;
         }
     }
     Ok(any)
 }
 
 /// The same of one run, in which standard error takes so many bytes.
-fn run_differs(rt: &HostRuntime, row: &Row<'_>, room: u64, status: u8, err: &[u8]) -> Result<bool> {
-    let got = run_row(rt.alloc(), row, room)?;
+fn run_differs(
+    rt: &HostRuntime,
+    natives: &Natives,
+    row: &Row<'_>,
+    room: u64,
+    status: u8,
+    err: &[u8],
+) -> Result<bool> {
+    let got = run_row(rt.alloc(), natives, row, room)?;
     if got.status == status
         && got.out.as_slice() == row.out.as_slice()
         && got.err.as_slice() == err
@@ -59,15 +67,17 @@ struct Answer {
 }
 
 /// What the program answers to a row. Standard output takes as many bytes as the row has for it.
-fn run_row(alloc: Global, row: &Row<'_>, room: u64) -> Result<Answer> {
+fn run_row(alloc: Global, natives: &Natives, row: &Row<'_>, room: u64) -> Result<Answer> {
     let mut files = MemFiles::new(alloc);
-    files.add(row.name, &row.text)?;
+    for file in &row.files {
+        files.add(file.name, &file.text)?;
+    }
     files.fail_call(row.plan.call)?;
     let mut out = MemSink::new(alloc, row.out.len())?;
     let mut err = MemSink::new(alloc, ROOM as usize)?;
     err.fail_call(row.plan.write)?;
     err.fail_after(room);
-    let status = run(alloc, &row.words, &mut files, &mut out, &mut err);
+    let status = run(alloc, &row.words, natives, &mut files, &mut out, &mut err);
     Ok(Answer {
         status: status.number(),
         out: out.bytes().to_vec(alloc)?,

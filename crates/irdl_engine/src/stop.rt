@@ -1,0 +1,37 @@
+//! Why the work on definition files stops.
+
+use dialect_registry::DefCode;
+use ir_lexer::LineCol;
+use std::alloc::AllocError;
+
+/// A rule that is broken, and where: the number of the file, from 0, and the place in it.
+#[derive(Clone, Copy, Debug)]
+pub struct Refusal {
+    pub file: usize,
+    pub place: LineCol,
+    pub code: DefCode,
+}
+
+/// Why the work on definition files stopped. A file is told by its number, from 0.
+#[derive(Clone, Copy, Debug)]
+pub enum Stop {
+    /// The file couldn't be opened or read.
+    Unreadable(usize),
+    /// The file has more bytes than the limit.
+    TooLong(usize),
+    /// The files break a rule.
+    Refused(Refusal),
+    /// Memory ran out.
+    OutOfMemory,
+}
+
+impl From<AllocError> for Stop {
+    ghost use Rattle.std.specs.Prelude.{◌≡◌};
+    ghost use Rattle.irdl_engine.specs.declared.stop.Stop.TheVariants.{OutOfMemory};
+
+    ghost from_gives = { λ _ stop. stop ≡ OutOfMemory };
+
+    fn from(_: AllocError) -> Stop {
+        Stop::OutOfMemory
+    }
+}
