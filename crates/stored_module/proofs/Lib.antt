@@ -1,0 +1,4 @@
+pub mod Printable
+pub mod Names
+pub mod Bytes
+pub mod Holding
