@@ -8,7 +8,7 @@ use symbol_scopes::{NameStop, Scopes, Uses};
 const DEPTH: u32 = 64;
 
 /// A letter and the digits of a number, the last one first.
-fn spell(name: &mut Vec<u8>, number: u32) -> Result<(), AllocError> {
+pub(crate) fn spell(name: &mut Vec<u8>, number: u32) -> Result<(), AllocError> {
     name.clear();
     name.push(b'v')?;
     let mut left = number;

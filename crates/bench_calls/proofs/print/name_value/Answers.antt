@@ -1,0 +1,15 @@
+use Rattle.std.proofs.Common.{sym, subst}
+use Rattle.std.specs.Prelude.{IfSome}
+use Rattle.std.specs.declared.option.Option.{Option}
+use Rattle.attr_value.specs.declared.head.ValueId.{ValueId}
+use Rattle.attr_value.specs.Ids.{at}
+use Rattle.derived_printer.specs.Spellable.{Spellable}
+use Rattle.bench_calls.proofs.Good.{meant-spellable}
+use Rattle.bench_calls.proofs.print.name_value.Goals as goal
+
+pub returns-clause-spellable : goal.returns-clause-spellable
+returns-clause-spellable c =
+    subst (λ (o : Option ValueId). IfSome o (λ id. Spellable (at c.define_alias.new.u id.0)))
+    (sym c.ok-2.ensures.value)
+    (meant-spellable _ c.define_alias.new.u _ _ _ _ c.define_alias.result c.requires.none
+    c.define_alias.ensures.ok)
