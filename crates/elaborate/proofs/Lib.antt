@@ -1,5 +1,16 @@
+pub mod AliasSteps
 pub mod Taking
+pub mod Finding
 pub mod Meaning
 pub mod DeepRegions
+pub mod Seen
+pub mod SeenSites
+pub mod ComposingFaults
+pub mod Staging
 pub mod WrongUses
 pub mod UseWalk
+pub mod AtPlaces
+pub mod UseTypes
+pub mod Composing
+pub mod Refusing
+pub mod Ending

@@ -3,6 +3,8 @@
 --   HasNoNamesFault tree     no name is at fault
 --   IsMeant tree uses        what the uses and successors of the tree mean, as its notes say it
 --   RefusesNamesOf tree stop the first fault of the names, or want of memory
+--
+-- Inside: no public clause rests on this.
 use Rattle.std.specs.Prelude.{◌≡◌, map}
 use Rattle.std.specs.declared.option.Option.TheVariants.{Some}
 use Rattle.elaborate.specs.declared.stop.ModStop.{ModStop}

@@ -1,6 +1,8 @@
 -- Regions that nest too deep, among what stands in a tree.
 --
 --   IsDeepRegion ss f     f is the fault of a region of a list that stands at nesting 65
+--
+-- Inside: no public clause rests on this.
 use Rattle.std.specs.Prelude.{◌≡◌, ◌<◌, ℕ, List, Contains}
 use Rattle.attr_value.specs.declared.head.TheConstants.{DEPTH_LIMIT}
 use Rattle.first_fault.specs.declared.fault.Fault.{Fault}

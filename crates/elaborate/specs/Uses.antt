@@ -4,6 +4,8 @@
 --   HasItsUses c site        the same of its tree
 --   IsWrongUse types uses shown numbers f    f is the fault of a use whose shown type isn't that of
 --                            the value of its number, where values have these types
+--
+-- Inside: no public clause rests on this.
 use Rattle.std.specs.Prelude.{◌≡◌, ◌≢◌, ℕ, List, length, slice_get}
 use Rattle.std.specs.declared.option.Option.TheVariants.{Some}
 use Rattle.attr_value.specs.declared.head.ValueId.{ValueId}

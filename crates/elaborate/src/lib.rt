@@ -1,18 +1,22 @@
-//! Stages of the judgement of a module's tree.
+//! From the tree of a module to its store.
 //!
-//! Each stage is a loop over what stands in the tree (`module_faults`), and a later one has a say
-//! where the earlier ones have no fault: names (`judge_names`), values, among which regions that
-//! nest too deep (`first_deep_region`), operations, and the types of uses (`first_wrong_use`). The
-//! stages of the other values and of operations aren't there yet, nor is the call that puts all
-//! together.
+//! Begin at `elaborate` and `specs/Elaborated.antt`. A tree is judged in stages, each a loop over
+//! what stands in it (`module_faults`): names, values, operations, and the types of uses. A later
+//! stage has a say where the earlier ones have no fault. The store is built before uses are judged,
+//! since it has the types of the values that they mean.
 #![tactic(auto)]
 
+mod aliases;
+mod module;
 mod names;
+mod operations;
 mod regions;
 mod stop;
 mod uses;
+mod values;
 
-pub use names::judge_names;
-pub use regions::first_deep_region;
+pub use module::elaborate;
 pub use stop::ModStop;
-pub use uses::{first_wrong_use, shown_types};
+
+#[cfg(test)]
+mod tests;

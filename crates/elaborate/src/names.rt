@@ -11,7 +11,7 @@ use std::alloc::Global;
 use symbol_scopes::{NameStop, Scopes, Uses};
 
 /// What the uses and successors of a module mean, or the first fault of its names.
-pub fn judge_names(alloc: Global, tree: &ModuleCst) -> Result<Uses, ModStop>
+pub(crate) fn judge_names(alloc: Global, tree: &ModuleCst) -> Result<Uses, ModStop>
     ensures right { OnOk result (HasNoNamesFault tree.now) }
     ensures meant { IfOk result (IsMeant tree.now) }
     ensures refused { IfErr result (RefusesNamesOf tree.now) }

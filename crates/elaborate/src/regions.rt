@@ -26,7 +26,7 @@ fn region_fault(standing: &Standing<'_>) -> Option<Fault>
 }
 
 /// The first region that nests too deep.
-pub fn first_deep_region(standings: &[Standing<'_>]) -> Option<Fault>
+pub(crate) fn first_deep_region(standings: &[Standing<'_>]) -> Option<Fault>
     ensures { IsFirst (IsDeepRegion (map seen standings.now)) result }
 {
     let mut first = None;

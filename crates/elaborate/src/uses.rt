@@ -1,8 +1,9 @@
 //! The types of uses.
 
-ghost use Rattle.std.specs.Prelude.{◌≡◌, ◌≤◌, ◌<◌, ◌∷◌, [], length, map, drop, IfOk};
+ghost use Rattle.std.specs.Prelude.{◌≡◌, ◌≢◌, ◌≤◌, ◌<◌, ◌∷◌, [], length, map, drop, IfOk};
 ghost use Rattle.std.specs.List.{AllZip, flat_map};
 ghost use Rattle.std.specs.Option.{ForSome};
+ghost use Rattle.attr_value.specs.Ids.{AreDistinct, AreKnown};
 ghost use Rattle.elaborate.specs.Uses.{HasItsUses, HasOperands, IsWrongUse};
 ghost use Rattle.first_fault.specs.Firsts.{IsFirst};
 ghost use Rattle.generic_syntax.specs.declared.module_cst.FormCst.{out-FormCst};
@@ -15,6 +16,7 @@ ghost use Rattle.module_faults.specs.Listed.{seen};
 ghost use Rattle.module_faults.specs.ModuleFaults.{operands_at};
 ghost use Rattle.module_faults.specs.Standings.{ops_of};
 
+use attr_uniquer::Uniquer;
 use attr_value::ValueId;
 use first_fault::{Fault, earlier};
 use generic_syntax::{FormCst, UseCst};
@@ -23,7 +25,7 @@ use module_faults::{OpIds, Standing, USE_TYPE};
 use std::alloc::{AllocError, Global};
 
 /// The types of all operands, one operation after the other.
-pub fn shown_types(alloc: Global, ids: &[OpIds]) -> Result<Vec<ValueId>, AllocError>
+pub(crate) fn shown_types(alloc: Global, ids: &[OpIds]) -> Result<Vec<ValueId>, AllocError>
     ensures { IfOk result (λ shown.
         shown.items ≡ flat_map (λ (x : OpIds). x.operands.items) ids.now) }
 {
@@ -34,9 +36,20 @@ pub fn shown_types(alloc: Global, ids: &[OpIds]) -> Result<Vec<ValueId>, AllocEr
     Ok(shown)
 }
 
+/// Types that differ have different ids, where one is known. This does nothing: its clause is the
+/// fact.
+pub(crate) fn types_differ_by_ids(u: &Uniquer, types: &[ValueId])
+    requires { AreKnown (length u.now) types.now }
+    ensures { types.now ≢ [] → AreDistinct u.now }
+{
+    if let Some(id) = types.first() {
+        let _same = u.same(*id, *id);
+    }
+}
+
 /// The first use that is shown with another type than that of the value that it means, in a store
 /// that was built of what stands. The types that uses are shown with come in the same order.
-pub fn first_wrong_use(
+pub(crate) fn first_wrong_use(
     store: &Store,
     standings: &[Standing<'_>],
     shown: &[ValueId],

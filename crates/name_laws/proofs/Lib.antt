@@ -7,7 +7,7 @@ mod OwnNames
 mod Pieces
 mod OneStep
 mod Naming
-mod WholeModule
+pub mod WholeModule
 mod Flat
-mod Fitting
-mod NewAliases
+pub mod Fitting
+pub mod NewAliases
