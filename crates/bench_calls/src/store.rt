@@ -40,6 +40,7 @@ fn add(alloc: Global) -> Result<OpDef, AllocError> {
         regions: List::new(alloc),
         successors: List::new(alloc),
         terminator: false,
+        format: None,
     })
 }
 

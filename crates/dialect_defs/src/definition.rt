@@ -2,6 +2,7 @@
 
 use crate::body::Body;
 use crate::entry::{AttrEntry, Entry, RegionEntry};
+use crate::format::Format;
 use attr_value::{List, Text};
 
 /// An operation. Its variables are those of its body.
@@ -18,6 +19,8 @@ pub struct OpDef {
     pub successors: List<Text>,
     /// Whether it stands last in its block.
     pub terminator: bool,
+    /// How it is written, where it has a form of its own.
+    pub format: Option<Format>,
 }
 
 /// A type, or an attribute.

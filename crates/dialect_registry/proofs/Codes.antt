@@ -15,8 +15,8 @@ use Rattle.irdl_ops.specs.declared.raw.RawExpr.TheVariants as e
 use Rattle.irdl_ops.specs.declared.raw.StatementKind.{StatementKind}
 use Rattle.irdl_ops.specs.declared.raw.StatementKind.TheVariants as s
 use Rattle.dialect_registry.specs.declared.code.DefCode.{DefCode}
-use Rattle.dialect_registry.specs.declared.code.DefCode.TheVariants.{Syntax, Nesting, NameRepeated, RefUnknown, ParamCount, PredicateUnknown, ChoiceLimit, ConstantBad, FormatSyntax, BaseUnknown, StatementRepeated, ReservedName, VarLimit}
-use Rattle.dialect_registry.specs.declared.refusal.DefRefusal.{DefRefusal}
+use Rattle.dialect_registry.specs.declared.code.DefCode.TheVariants.{Syntax, Nesting, NameRepeated, RefUnknown, ParamCount, PredicateUnknown, ChoiceLimit, ConstantBad, FormatSyntax, FormatUnknown, FormatMissing, FormatRepeated, FormatGroup, FormatAmbiguous, FormatNoType, BaseUnknown, StatementRepeated, ReservedName, VarLimit}
+use Rattle.dialect_registry.specs.declared.refusal.FileFault.{FileFault}
 use Rattle.dialect_registry.specs.Codes.{code_number, IsRule, Breaks, refusal}
 use Rattle.dialect_registry.specs.DefFaults.{IsStatementFault, IsDefFault, IsDialectFault, IsFault, IsFirstIn, world_of}
 use Rattle.dialect_registry.specs.Limits.{IsExtra, variables}
@@ -31,7 +31,10 @@ numbered n =
     else if n == 4 then RefUnknown else if n == 5 then ParamCount
     else if n == 6 then PredicateUnknown
     else if n == 7 then ChoiceLimit else if n == 8 then ConstantBad
-    else if n == 9 then FormatSyntax else if n == 16 then BaseUnknown
+    else if n == 9 then FormatSyntax else if n == 10 then FormatUnknown
+    else if n == 11 then FormatMissing else if n == 12 then FormatRepeated
+    else if n == 13 then FormatGroup else if n == 14 then FormatAmbiguous
+    else if n == 15 then FormatNoType else if n == 16 then BaseUnknown
     else if n == 17 then StatementRepeated else if n == 18 then ReservedName else VarLimit
 
 numbered-code_number : (c : DefCode) → numbered (code_number c) ≡ c
@@ -45,6 +48,12 @@ numbered-code_number PredicateUnknown = refl
 numbered-code_number ChoiceLimit = refl
 numbered-code_number ConstantBad = refl
 numbered-code_number FormatSyntax = refl
+numbered-code_number FormatUnknown = refl
+numbered-code_number FormatMissing = refl
+numbered-code_number FormatRepeated = refl
+numbered-code_number FormatGroup = refl
+numbered-code_number FormatAmbiguous = refl
+numbered-code_number FormatNoType = refl
 numbered-code_number BaseUnknown = refl
 numbered-code_number StatementRepeated = refl
 numbered-code_number ReservedName = refl
@@ -139,7 +148,7 @@ IsFault-rule files natives n f (defs, at, (i, below, x, there, p)) =
     dialect-rule (world_of files natives) _ x f p
 
 -- and so does the first one
-pub first-rule : (files : List RawDefs) (natives : List Text) (first : Option DefRefusal)
+pub first-rule : (files : List RawDefs) (natives : List Text) (first : Option FileFault)
     → IsFirstIn (IsFault files natives) first → IfSome first (λ r. IsRule r.code)
 first-rule files natives None x = tt
 first-rule files natives (Some r) x = IsFault-rule files natives r.file _ x.0.0

@@ -54,3 +54,12 @@ each-at {A} {B} R (x ∷ xs) (z ∷ ys) each zero y at =
 each-at {A} {B} R (x ∷ xs) (z ∷ ys) each (suc i) y at =
     let found = each-at R xs ys each.1 i y at in
     (found.0, contains-tail x found.0 xs found.1, found.2, found.3)
+
+-- some of each, and then others
+pub each-appended : {A B : Type 0} (R : A → B → Type 0) (xs zs : List A) (ys ws : List B)
+    → AreEach R xs ys → AreEach R zs ws → AreEach R (xs ++ zs) (ys ++ ws)
+each-appended R [] zs [] ws first then = then
+each-appended R (x ∷ xs) zs (y ∷ ys) ws first then =
+    (first.0, each-appended R xs zs ys ws first.1 then)
+each-appended R [] zs (y ∷ ys) ws first then = absurd first
+each-appended R (x ∷ xs) zs [] ws first then = absurd first

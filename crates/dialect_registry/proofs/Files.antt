@@ -9,7 +9,7 @@ use Rattle.first_fault.specs.Firsts.{IsFirst}
 use Rattle.first_fault.proofs.Firsts.{first-same}
 use Rattle.irdl_ops.specs.declared.raw.RawDefs.{RawDefs}
 use Rattle.ir_lexer.specs.Spelling.{Text}
-use Rattle.dialect_registry.specs.declared.refusal.DefRefusal.{DefRefusal}
+use Rattle.dialect_registry.specs.declared.refusal.FileFault.{FileFault}
 use Rattle.dialect_registry.specs.DefFaults.{fault_in, IsFirstIn, IsFault, IsFileFault, world_of, dialects_of}
 use Rattle.dialect_registry.specs.Scopes.{or_in_file}
 
@@ -18,7 +18,7 @@ abbrev pub FaultBelow : (ℕ → Fault → Type 0) → ℕ → ℕ → Fault →
 FaultBelow P count n f = (n < count) × P n f
 
 -- the same faults of each file have the same first one
-pub first-in-same : (P Q : ℕ → Fault → Type 0) (first : Option DefRefusal)
+pub first-in-same : (P Q : ℕ → Fault → Type 0) (first : Option FileFault)
     → ((n : ℕ) (f : Fault) → P n f → Q n f) → ((n : ℕ) (f : Fault) → Q n f → P n f)
     → IsFirstIn P first → IsFirstIn Q first
 first-in-same P Q None to back x = λ n f q. x n f (back n f q)
@@ -33,7 +33,7 @@ module _ (P : ℕ → Fault → Type 0) (i : ℕ) where
   split n below = elim (cases_lt n i) [ inl h ↦ inl h | inr le ↦ inr (omega arith) ]
 
   -- a fault that was found stays the first
-  stays : (r : DefRefusal) → IsFirstIn (FaultBelow P i) (Some r)
+  stays : (r : FileFault) → IsFirstIn (FaultBelow P i) (Some r)
       → IsFirstIn (FaultBelow P (i + 1)) (Some r)
   stays r found =
       let below : r.file < i = found.0.0.0 in (
@@ -44,7 +44,7 @@ module _ (P : ℕ → Fault → Type 0) (i : ℕ) where
       )
 
   -- with one file more, the fault that was found stays, or that of the file comes
-  pub files-more : (first : Option DefRefusal) (fault : Option Fault)
+  pub files-more : (first : Option FileFault) (fault : Option Fault)
       → IsFirstIn (FaultBelow P i) first → IsFirst (P i) fault
       → IsFirstIn (FaultBelow P (i + 1)) (or_in_file first i fault)
   files-more None None none here = λ n f (below, p). elim (split n below) [
@@ -87,7 +87,7 @@ slice_get-below (y ∷ xs) (suc n) x e =
     let less : n < length xs = slice_get-below xs n x e in omega arith
 
 -- all files have been judged
-pub files-all : (files : List RawDefs) (natives : List Text) (i : ℕ) (first : Option DefRefusal)
+pub files-all : (files : List RawDefs) (natives : List Text) (i : ℕ) (first : Option FileFault)
     → length files ≤ i → IsFirstIn (FaultBelow (IsFault files natives) i) first
     → IsFirstIn (IsFault files natives) first
 files-all files natives i first whole found =
@@ -97,7 +97,7 @@ files-all files natives i first whole found =
     found
 
 -- the first fault of one file alone is its own
-pub one-file-first : (defs : RawDefs) (natives : List Text) (first : Option DefRefusal)
+pub one-file-first : (defs : RawDefs) (natives : List Text) (first : Option FileFault)
     → IsFirstIn (IsFault (defs ∷ []) natives) first
     → IsFirst (IsFault (defs ∷ []) natives 0) (option_map fault_in first)
 one-file-first defs natives None found = found 0

@@ -25,3 +25,5 @@ pub mod Walks
 pub mod Listed
 pub mod SoundOps
 pub mod Placed
+pub mod OneFormat
+pub mod AddedFormats

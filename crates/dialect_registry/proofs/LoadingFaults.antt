@@ -19,11 +19,11 @@ use Rattle.irdl_ops.specs.declared.raw.RawExpr.TheVariants as raw
 use Rattle.irdl_ops.specs.declared.raw.StatementKind.{StatementKind}
 use Rattle.irdl_ops.specs.declared.raw.StatementKind.TheVariants as k
 use Rattle.value_meaning.proofs.Meant.{means-grows}
-use Rattle.dialect_registry.specs.declared.code.DefCode.TheVariants.{ConstantBad, FormatSyntax}
-use Rattle.dialect_registry.specs.declared.refusal.DefRefusal.{DefRefusal}
+use Rattle.dialect_registry.specs.declared.code.DefCode.TheVariants.{ConstantBad}
+use Rattle.dialect_registry.specs.declared.refusal.FileFault.{FileFault}
 use Rattle.dialect_registry.specs.declared.resolve.definition.Resolved.{Resolved}
 use Rattle.dialect_registry.specs.Codes.{IsRule}
-use Rattle.dialect_registry.specs.ConstantFaults.{IsConstantFault, IsExprConstantFault, IsFaultIn, IsFormatFault}
+use Rattle.dialect_registry.specs.ConstantFaults.{IsConstantFault, IsExprConstantFault, IsFaultIn}
 use Rattle.dialect_registry.specs.DefFaults.{IsFirstIn, dialects_of, fault_in}
 use Rattle.dialect_registry.specs.Resolved.{AreEach, Named, IsConstraint, IsMeaningless, IsOp, IsType, Located, constraint_in, constraints_in, located, located_in, located_of, op_by, ops_among, type_by, types_among}
 use Rattle.dialect_registry.specs.Resolving.{Resolves}
@@ -35,7 +35,7 @@ use Rattle.dialect_registry.proofs.Members.{contains-cases, contains-head, conta
 -- the first of such faults has a rule, where each has
 pub first-in-rule : (P : StatementKind → Fault → Type 0)
     → ((s : StatementKind) (f : Fault) → P s f → IsRule f.code) → (files : List RawDefs)
-    → (r : DefRefusal) → IsFirstIn (IsFaultIn P files) (Some r) → IsRule r.code
+    → (r : FileFault) → IsFirstIn (IsFaultIn P files) (Some r) → IsRule r.code
 first-in-rule P each files r first =
     let found = first.0.0 in
     let dialect = found.2 in
@@ -66,18 +66,6 @@ constant-rule values tests types (k.Regions entries) f p = absurd p
 constant-rule values tests types (k.Successors names) f p = absurd p
 constant-rule values tests types k.Terminator f p = absurd p
 constant-rule values tests types (k.Format text) f p = absurd p
-
-pub format-rule : (s : StatementKind) (f : Fault) → IsFormatFault s f → IsRule f.code
-format-rule (k.Constraint n e) f p = absurd p
-format-rule (k.Region n args size) f p = absurd p
-format-rule (k.Parameters entries) f p = absurd p
-format-rule (k.Operands entries) f p = absurd p
-format-rule (k.Results entries) f p = absurd p
-format-rule (k.Attributes attrs) f p = absurd p
-format-rule (k.Regions entries) f p = absurd p
-format-rule (k.Successors names) f p = absurd p
-format-rule k.Terminator f p = absurd p
-format-rule (k.Format text) f p = (FormatSyntax, ap (λ g. g.code) p.1)
 
 -- ---- faults of one kind that are faults of another
 

@@ -1,5 +1,5 @@
 -- What files that are resolved define, and the refusals of their loading.
-use Rattle.std.proofs.Common.{◌≡◌, ℕ, List, ◌∷◌, length, refl, sym, subst}
+use Rattle.std.proofs.Common.{◌≡◌, ℕ, List, [], ◌∷◌, length, refl, sym, subst}
 use Rattle.std.specs.Prelude.{IfErr}
 use Rattle.std.specs.Result.{IsErr, IsErrAnd}
 use Rattle.std.specs.declared.option.Option.{Option}
@@ -11,6 +11,7 @@ use Rattle.constraint_solver.specs.Definitions.{AreSoundDefs}
 use Rattle.constraint_solver.specs.Grown.{Extends}
 use Rattle.dialect_defs.specs.declared.definition.OpDef.{OpDef}
 use Rattle.dialect_defs.specs.declared.definition.TypeDef.{TypeDef}
+use Rattle.dialect_defs.specs.declared.format.Format.{Format}
 use Rattle.dialect_defs.specs.Assignments.{Tests}
 use Rattle.ir_lexer.specs.Spelling.{Text}
 use Rattle.irdl_ops.specs.declared.raw.RawDefs.{RawDefs}
@@ -20,9 +21,11 @@ use Rattle.dialect_registry.specs.declared.refusal.DefRefusal.{DefRefusal}
 use Rattle.dialect_registry.specs.declared.resolve.definition.Resolved.{Resolved}
 use Rattle.dialect_registry.specs.ConstantFaults.{shapes_of}
 use Rattle.dialect_registry.specs.DefFaults.{IsFault, dialects_of, world_of}
-use Rattle.dialect_registry.specs.Loaded.{AreOps, AreTypes, HasNoFault, HaveTypes, module_op}
+use Rattle.dialect_registry.specs.Loaded.{AreOwnOps, AreTypes, HasNoFault, HaveTypes}
+use Rattle.dialect_registry.specs.FormatFaults.{HasFormat, ops_in}
+use Rattle.dialect_registry.specs.Formatting.{formatted, formatted_each}
 use Rattle.dialect_registry.specs.Refusals.{Refuses}
-use Rattle.dialect_registry.specs.Resolved.{IsOp, IsType, located_in, ops_among, types_among}
+use Rattle.dialect_registry.specs.Resolved.{AreEach, IsOp, IsType, Located, located_in, types_among}
 use Rattle.dialect_registry.specs.Resolving.{Resolves}
 use Rattle.dialect_registry.proofs.Each.{each-weaker}
 use Rattle.dialect_registry.proofs.LoadingFaults.{resolved-valued}
@@ -30,7 +33,8 @@ use Rattle.dialect_registry.proofs.Resolving.{op-grows, type-grows}
 use Rattle.dialect_registry.proofs.SoundTypes.{sound-types}
 
 -- what holds of one refusal holds of another
-pub refuses-weaker : (P Q : DefRefusal → Type 0) → ((r : DefRefusal) → P r → Q r) → (stop : DefStop)
+pub refuses-weaker : (P Q : DefRefusal → Type 0) → ((r : DefRefusal) → P r → Q r)
+    → (stop : DefStop)
     → Refuses P stop → Refuses Q stop
 refuses-weaker P Q weaker (Refused r) p = weaker r p
 refuses-weaker P Q weaker OutOfMemory p = tt
@@ -40,6 +44,12 @@ pub handed-on : {A : Type 0} (r : Result A DefStop) (x : DefStop) (P : DefStop �
     → IsErr r × IsErrAnd r (λ e. e ≡ x) → P x → IfErr r P
 handed-on (Ok a) x P h p = tt
 handed-on (Err e) x P h p = subst P (sym h.1) p
+
+-- the same of a refusal of which less is asked
+pub passed-on : {A : Type 0} (r : Result A DefStop) (x : DefStop) (P Q : DefRefusal → Type 0)
+    → IsErr r × IsErrAnd r (λ e. e ≡ x) → ((s : DefRefusal) → P s → Q s) → Refuses P x
+    → IfErr r (Refuses Q)
+passed-on r x P Q h weaker p = handed-on r x (Refuses Q) h (refuses-weaker P Q weaker x p)
 
 -- what isn't something is nothing
 pub none-of : {A : Type 0} (o : Option A) → ((x : A) → o ≡ Some x → ⊥) → o ≡ None
@@ -62,14 +72,14 @@ module _ (files : List RawDefs) (natives : List Text) (tests : Tests) where
       }
 
   -- and their operations
-  pub have-ops : (values : List Value) (shapes : List TypeDef) (r : Resolved) (ops : List OpDef)
+  pub have-ops : (values : List Value) (shapes : List TypeDef) (r : Resolved)
       → shapes ≡ shapes_of files
       → Resolves (world_of files natives) tests shapes values (located_in (dialects_of files)) r
-      → ops ≡ module_op ∷ r.ops.items → AreOps files natives tests values ops
-  have-ops values shapes r ops same resolves is =
+      → AreOwnOps files natives tests values r.ops.items
+  have-ops values shapes r same resolves =
       let all = subst (λ s. Resolves (world_of files natives) tests s values
       (located_in (dialects_of files)) r) same resolves in
-      record { own = r.ops.items; first = is; each = all.ops }
+      all.ops
 
   -- they are so over a longer table
   pub types-longer : {old new : List Value} → Extends old new → (types : List TypeDef)
@@ -83,16 +93,62 @@ module _ (files : List RawDefs) (natives : List Text) (tests : Tests) where
         (types_among (located_in (dialects_of files))) types have.types_are;
   }
 
-  pub ops-longer : {old new : List Value} → Extends old new → (ops : List OpDef)
-      → AreOps files natives tests old ops → AreOps files natives tests new ops
-  ops-longer {old} {new} e ops have = record {
-    own = have.own;
-    first = have.first;
-    each = each-weaker (IsOp (world_of files natives) tests (shapes_of files) old)
-        (IsOp (world_of files natives) tests (shapes_of files) new)
-        (op-grows (world_of files natives) tests (shapes_of files) e)
-        (ops_among (located_in (dialects_of files))) have.own have.each;
+  pub ops-longer : {old new : List Value} → Extends old new → (own : List OpDef)
+      → AreOwnOps files natives tests old own → AreOwnOps files natives tests new own
+  ops-longer {old} {new} e own have =
+      each-weaker (IsOp (world_of files natives) tests (shapes_of files) old)
+      (IsOp (world_of files natives) tests (shapes_of files) new)
+      (op-grows (world_of files natives) tests (shapes_of files) e)
+      (ops_in (dialects_of files)) own have
+
+  -- an operation is what it was with any format
+  op-formatted : (values : List Value) (d : Located) (o : OpDef) (f : Option Format)
+      → IsOp (world_of files natives) tests (shapes_of files) values d o
+      → IsOp (world_of files natives) tests (shapes_of files) values d (formatted o f)
+  op-formatted values d o f is = record {
+    name = is.name;
+    body = is.body;
+    operands = is.operands;
+    results = is.results;
+    attrs = is.attrs;
+    regions = is.regions;
+    successors = is.successors;
+    terminator = is.terminator;
   }
+
+  -- and so are the operations of files
+  each-formatted : (values : List Value) (ds : List Located) (own : List OpDef)
+      (formats : List (Option Format))
+      → AreEach (IsOp (world_of files natives) tests (shapes_of files) values) ds own
+      → AreEach HasFormat ds formats
+      → AreEach (IsOp (world_of files natives) tests (shapes_of files) values) ds
+      (formatted_each own formats)
+  each-formatted values [] [] formats each have = tt
+  each-formatted values [] (o ∷ own) formats each have = absurd each
+  each-formatted values (d ∷ ds) [] formats each have = absurd each
+  each-formatted values (d ∷ ds) (o ∷ own) [] each have = absurd have
+  each-formatted values (d ∷ ds) (o ∷ own) (f ∷ formats) each have = (
+    op-formatted values d o f each.0,
+    each-formatted values ds own formats each.1 have.1,
+  )
+
+  pub ops-formatted : (values : List Value) (own : List OpDef) (formats : List (Option Format))
+      → AreOwnOps files natives tests values own
+      → AreEach HasFormat (ops_in (dialects_of files)) formats
+      → AreOwnOps files natives tests values (formatted_each own formats)
+  ops-formatted values own formats each have =
+      each-formatted values (ops_in (dialects_of files)) own formats each have
+
+-- they have these formats
+pub have-formats : (R : Located → OpDef → Type 0) (ds : List Located) (own : List OpDef)
+    (formats : List (Option Format)) → AreEach R ds own → AreEach HasFormat ds formats
+    → AreEach (λ d op. HasFormat d op.format) ds (formatted_each own formats)
+have-formats R [] [] formats each have = tt
+have-formats R [] (o ∷ own) formats each have = absurd each
+have-formats R (d ∷ ds) [] formats each have = absurd each
+have-formats R (d ∷ ds) (o ∷ own) [] each have = absurd have
+have-formats R (d ∷ ds) (o ∷ own) (f ∷ formats) each have =
+    (have.0, have-formats R ds own formats each.1 have.1)
 
 -- definitions that a call hands out are those that the files have, and sound
 pub record Handed (files : List RawDefs) (natives : List Text) (tests : Tests)

@@ -1,5 +1,5 @@
 -- What was resolved stays so as the table of values grows, and definitions are resolved one by one.
-use Rattle.std.proofs.Common.{◌≡◌, ◌∙◌, ℕ, ◌+◌, ◌<◌, ◌⊎◌, inl, inr, List, [], ◌∷◌, ◌++◌, length, take, get_or, map, sym, ap, subst, arith, append-nil, append_assoc}
+use Rattle.std.proofs.Common.{◌≡◌, ◌∙◌, ℕ, ◌+◌, ◌<◌, ◌⊎◌, inl, inr, List, [], ◌∷◌, ◌++◌, length, take, get_or, map, sym, ap, subst, arith, append-nil, append_assoc, refl}
 use Rattle.std.proofs.lemmas.List.{map-append, take_more}
 use Rattle.std.specs.List.{flat_map}
 use Rattle.std.proofs.lemmas.Grind.{flat_map-append}
@@ -7,6 +7,7 @@ use Rattle.attr_value.specs.declared.head.ValueId.{ValueId}
 use Rattle.attr_value.specs.Values.{Value}
 use Rattle.constraint_solver.specs.Grown.{Extends}
 use Rattle.constraint_solver.proofs.Grows.{at-grows, length-grows}
+use Rattle.dialect_defs.specs.declared.body.Body.{Body}
 use Rattle.dialect_defs.specs.declared.body.Constraint.{Constraint}
 use Rattle.dialect_defs.specs.declared.definition.OpDef.{OpDef}
 use Rattle.dialect_defs.specs.declared.definition.TypeDef.{TypeDef}
@@ -22,7 +23,8 @@ use Rattle.irdl_ops.specs.declared.raw.RawDefs.{RawDefs}
 use Rattle.dialect_registry.specs.declared.resolve.definition.Resolved.{Resolved}
 use Rattle.dialect_registry.specs.declared.resolve.names.NamedExpr.{NamedExpr}
 use Rattle.dialect_registry.specs.DefFaults.{dialects_of}
-use Rattle.dialect_registry.specs.Resolved.{AreEach, Named, HasConstant, IsConstraint}
+use Rattle.dialect_registry.specs.FormatFaults.{op_of}
+use Rattle.dialect_registry.specs.Resolved.{AreEach, IsBody, Named, HasConstant, IsConstraint}
 use Rattle.dialect_registry.specs.Resolved.{IsType, IsOp, Located, located, types_among, ops_among}
 use Rattle.dialect_registry.specs.Resolved.{no_aliases, type_by, op_by, constraints_in, located_in, located_of}
 use Rattle.dialect_registry.specs.Resolving.{Resolves, named_seen, one_seen}
@@ -93,6 +95,23 @@ module _ (w : World) (tests : Tests) (shapes : List TypeDef) {old new : List Val
     ops = each-weaker (IsOp w tests shapes old) (IsOp w tests shapes new) op-grows
         (ops_among ds) r.ops.items is.ops;
   }
+
+-- an operation that is made of its definition and a body that was resolved
+pub op-made : (w : World) (tests : Tests) (shapes : List TypeDef) (values : List Value)
+    (d : Located) (body : Body) (o : OpDef) → o ≡ op_of d body
+    → IsBody w tests shapes values d.dialect (constraints_in d.def.statements) body
+    → IsOp w tests shapes values d o
+op-made w tests shapes values d body o is resolved =
+    subst (IsOp w tests shapes values d) (sym is) (record {
+      name = refl;
+      body = resolved;
+      operands = refl;
+      results = refl;
+      attrs = refl;
+      regions = refl;
+      successors = refl;
+      terminator = refl;
+    })
 
 -- one constraint more is resolved
 pub constraints-next : (w : World) (tests : Tests) (shapes : List TypeDef) {old new : List Value}

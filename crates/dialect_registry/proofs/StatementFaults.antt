@@ -8,7 +8,7 @@ use Rattle.first_fault.specs.Firsts.{IsFirst}
 use Rattle.first_fault.proofs.Firsts.{first-same}
 use Rattle.irdl_ops.specs.declared.raw.RawDefs.{RawDefs}
 use Rattle.irdl_ops.specs.declared.raw.StatementKind.{StatementKind}
-use Rattle.dialect_registry.specs.declared.refusal.DefRefusal.{DefRefusal}
+use Rattle.dialect_registry.specs.declared.refusal.FileFault.{FileFault}
 use Rattle.dialect_registry.specs.ConstantFaults.{IsFaultOfFile, IsFaultIn}
 use Rattle.dialect_registry.specs.DefFaults.{IsFirstIn}
 use Rattle.dialect_registry.proofs.Files.{FaultBelow, first-in-same, slice_get-below}
@@ -29,7 +29,7 @@ module _ (P : StatementKind → Fault → Type 0) (files : List RawDefs) where
           subst (λ d. IsFaultOfFile P d f) same p
 
   -- all files have been judged
-  pub in-files-all : (i : ℕ) (first : Option DefRefusal) → length files ≤ i
+  pub in-files-all : (i : ℕ) (first : Option FileFault) → length files ≤ i
       → IsFirstIn (FaultBelow (IsFaultIn P files) i) first → IsFirstIn (IsFaultIn P files) first
   in-files-all i first whole found =
       first-in-same (FaultBelow (IsFaultIn P files) i) (IsFaultIn P files) first

@@ -1,4 +1,4 @@
--- The faults of constants and of format strings in definition files.
+-- The faults of constants in definition files.
 --
 -- Constants are judged in two stages, over all files each. In the first, names and numbers of
 -- parameters count alone: a constant mentions no alias, obeys the rules of values, and names types
@@ -6,7 +6,6 @@
 -- the bodies of what it names.
 --
 --   IsConstantFault .. s f    f is the fault of a statement that gives a constant
---   IsFormatFault s f         f is the fault of a statement that gives a format string
 --   IsFaultOfFile P defs f, IsFaultIn P files n f
 --                             f is such a fault of a statement of a file, and of the file with the
 --                             number n
@@ -27,8 +26,8 @@ use Rattle.irdl_ops.specs.declared.raw.RawDefs.{RawDefs}
 use Rattle.irdl_ops.specs.declared.raw.RawExpr.{RawExpr}
 use Rattle.irdl_ops.specs.declared.raw.RawExpr.TheVariants.{Is}
 use Rattle.irdl_ops.specs.declared.raw.StatementKind.{StatementKind}
-use Rattle.irdl_ops.specs.declared.raw.StatementKind.TheVariants.{Constraint as Defines, Format}
-use Rattle.dialect_registry.specs.declared.code.DefCode.TheVariants.{ConstantBad, FormatSyntax}
+use Rattle.irdl_ops.specs.declared.raw.StatementKind.TheVariants.{Constraint as Defines}
+use Rattle.dialect_registry.specs.declared.code.DefCode.TheVariants.{ConstantBad}
 use Rattle.dialect_registry.specs.Codes.{Breaks}
 use Rattle.dialect_registry.specs.DefFaults.{dialects_of}
 use Rattle.dialect_registry.specs.Parts.{Among}
@@ -48,11 +47,6 @@ module _ (values : List Value) (tests : Tests) (types : List TypeDef) where
   abbrev pub IsConstantFault : StatementKind → Fault → Type 0
   IsConstantFault (Defines name expr) = IsExprConstantFault expr
   IsConstantFault _ = λ f. ⊥
-
--- no format string is read yet, so each is refused
-abbrev pub IsFormatFault : StatementKind → Fault → Type 0
-IsFormatFault (Format text) = Breaks (Unit {0}) text.place FormatSyntax
-IsFormatFault _ = λ f. ⊥
 
 -- ---- files
 

@@ -27,7 +27,7 @@ use Rattle.irdl_ops.specs.declared.raw.StatementKind.{StatementKind}
 use Rattle.irdl_ops.specs.declared.raw.StatementKind.TheVariants.{Constraint, Operands, Results, Attributes}
 use Rattle.dialect_registry.specs.declared.code.DefCode.TheVariants.{NameRepeated, ChoiceLimit, ReservedName}
 use Rattle.dialect_registry.specs.declared.limits.TheConstants.{CHOICE_LIMIT}
-use Rattle.dialect_registry.specs.declared.refusal.DefRefusal.{DefRefusal}
+use Rattle.dialect_registry.specs.declared.refusal.FileFault.{FileFault}
 use Rattle.dialect_registry.specs.Codes.{Breaks}
 use Rattle.dialect_registry.specs.Limits.{IsExtra, variables}
 use Rattle.dialect_registry.specs.NameFaults.{IsFaultIn, marks_of_body, choices}
@@ -108,11 +108,11 @@ IsFault files natives n f =
     × IsFileFault (world_of files natives) (dialects_of (take n files)) defs f
 
 -- a refusal without its file
-abbrev pub fault_in : DefRefusal → Fault
+abbrev pub fault_in : FileFault → Fault
 fault_in r = record { place = r.place; code = r.code }
 
 -- the first fault of the first of some files that has one, or nothing where none has any
-abbrev pub IsFirstIn : (ℕ → Fault → Type 0) → Option DefRefusal → Type 0
+abbrev pub IsFirstIn : (ℕ → Fault → Type 0) → Option FileFault → Type 0
 IsFirstIn P None = (n : ℕ) (f : Fault) → P n f → ⊥
 IsFirstIn P (Some r) =
     IsFirst (P r.file) (Some (fault_in r))

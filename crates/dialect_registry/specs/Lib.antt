@@ -9,7 +9,10 @@ pub mod DefFaults
 pub mod Resolved
 pub mod Registered
 pub mod ConstantFaults
+pub mod FormatFaults
 pub mod Loaded
 pub mod Scopes
 pub mod Resolving
+pub mod Details
+pub mod Formatting
 pub mod Refusals

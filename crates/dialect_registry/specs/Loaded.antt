@@ -7,8 +7,7 @@
 --   AreTypes .. types         the types and attributes of files are these
 --   AreOps .. ops             the operations of files are these, behind `builtin.module`
 --   HasNoFault P              no file has a fault P
---   HasNoValue, IsNotGood, HasFormat
---                             the faults of the stages behind the first
+--   HasNoValue, IsNotGood     the faults of the stages on constants
 --   HaveTypes .. types        files keep the rules of the first two stages, and define these
 --   AreLoaded .. types ops    files keep all rules, and define these
 --   IsRefusedBy .. r          r is the first fault of the first stage that has one
@@ -20,14 +19,27 @@ use Rattle.dialect_defs.specs.declared.body.BaseRef.TheVariants.{Builtin}
 use Rattle.dialect_defs.specs.declared.body.Constraint.TheVariants.{Base}
 use Rattle.dialect_defs.specs.declared.definition.OpDef.{OpDef}
 use Rattle.dialect_defs.specs.declared.definition.TypeDef.{TypeDef}
+use Rattle.dialect_defs.specs.declared.format.ElementKind.TheVariants as kind
+use Rattle.dialect_defs.specs.declared.format.Format.{Format}
 use Rattle.dialect_defs.specs.Assignments.{Tests}
 use Rattle.first_fault.specs.declared.fault.Fault.{Fault}
 use Rattle.ir_lexer.specs.Spelling.{Text}
 use Rattle.irdl_ops.specs.declared.raw.RawDefs.{RawDefs}
+use Rattle.format_checker.specs.Named.{element_at}
 use Rattle.dialect_registry.specs.declared.refusal.DefRefusal.{DefRefusal}
-use Rattle.dialect_registry.specs.ConstantFaults.{IsConstantFault, IsFaultIn, IsFormatFault, shapes_of}
+use Rattle.dialect_registry.specs.ConstantFaults.{IsConstantFault, IsFaultIn, shapes_of}
 use Rattle.dialect_registry.specs.DefFaults.{IsFault, IsFirstIn, dialects_of, world_of}
-use Rattle.dialect_registry.specs.Resolved.{AreEach, IsOp, IsType, located_in, ops_among, types_among}
+use Rattle.dialect_registry.specs.FormatFaults.{HasFormat, IsFirstRefused, ops_in}
+use Rattle.dialect_registry.specs.Refusals.{fault_of, IsPlain}
+use Rattle.dialect_registry.specs.Resolved.{AreEach, IsOp, IsType, located_in, types_among}
+
+-- how it is written: ``(symbol($sym_name)^)? attr-dict-with-keyword $body``
+abbrev pub module_format : Format
+module_format = record {
+  elements =
+      element_at 0 (kind.Group (element_at 1 (kind.SymbolName 0) ∷ []) [] 0)
+      ∷ element_at 22 kind.DictKeyword ∷ element_at 45 (kind.Region 0) ∷ [];
+}
 
 -- the operation that is always there
 abbrev pub module_op : OpDef
@@ -45,6 +57,7 @@ module_op = record {
   regions = record { name = Some (codes "body"); args = None; size = None } ∷ [];
   successors = [];
   terminator = false;
+  format = Some module_format;
 }
 
 -- no file has such a fault
@@ -59,10 +72,6 @@ HasNoValue files tests = IsFaultIn (IsConstantFault [] tests (shapes_of files)) 
 abbrev pub IsNotGood : List RawDefs → Tests → List Value → List TypeDef → ℕ → Fault → Type 0
 IsNotGood files tests values types = IsFaultIn (IsConstantFault values tests types) files
 
--- a format string stands in a file
-abbrev pub HasFormat : List RawDefs → ℕ → Fault → Type 0
-HasFormat files = IsFaultIn IsFormatFault files
-
 module _ (files : List RawDefs) (natives : List Text) (tests : Tests) where
   -- the types and attributes of the files are these, in order, over a table of values
   abbrev pub AreTypes : List Value → List TypeDef → Type 0
@@ -70,12 +79,17 @@ module _ (files : List RawDefs) (natives : List Text) (tests : Tests) where
       AreEach (IsType (world_of files natives) tests (shapes_of files) values)
       (types_among (located_in (dialects_of files))) types
 
+  -- the operations of the files are these, in order, but for their formats
+  abbrev pub AreOwnOps : List Value → List OpDef → Type 0
+  AreOwnOps values own =
+      AreEach (IsOp (world_of files natives) tests (shapes_of files) values)
+      (ops_in (dialects_of files)) own
+
   -- the operations are these, behind the one that is always there
   pub record AreOps (values : List Value) (ops : List OpDef) : Type 0 where
     pub own : List OpDef
     pub first : ops ≡ module_op ∷ own
-    pub each : AreEach (IsOp (world_of files natives) tests (shapes_of files) values)
-        (ops_among (located_in (dialects_of files))) own
+    pub each : AreOwnOps values own
 
   -- the files keep the rules on names, references and limits, their constants have values, and
   -- these are their types and attributes
@@ -90,20 +104,21 @@ module _ (files : List RawDefs) (natives : List Text) (tests : Tests) where
     pub have : HaveTypes values types
     pub ops_are : AreOps values ops
     pub good : HasNoFault (IsNotGood files tests values types)
-    pub formats : HasNoFault (HasFormat files)
+    pub formats : AreEach (λ d op. HasFormat d op.format) (ops_in (dialects_of files)) ops_are.own
 
   -- the first fault of the first stage that has one
   pub data IsRefusedBy : DefRefusal → Type 0 where
     -- names, references and limits
-    in_rules : {r : DefRefusal} → IsFirstIn (IsFault files natives) (Some r) → IsRefusedBy r
+    in_rules : {r : DefRefusal} → IsFirstIn (IsFault files natives) (Some (fault_of r))
+        → IsPlain r → IsRefusedBy r
     -- constants that have no value
     in_values : {r : DefRefusal} → HasNoFault (IsFault files natives)
-        → IsFirstIn (HasNoValue files tests) (Some r) → IsRefusedBy r
+        → IsFirstIn (HasNoValue files tests) (Some (fault_of r)) → IsPlain r → IsRefusedBy r
     -- constants that have no good one
     in_goodness : {r : DefRefusal} (values : List Value) (types : List TypeDef)
-        → HaveTypes values types → IsFirstIn (IsNotGood files tests values types) (Some r)
-        → IsRefusedBy r
+        → HaveTypes values types → IsFirstIn (IsNotGood files tests values types) (Some (fault_of r))
+        → IsPlain r → IsRefusedBy r
     -- formats
     in_formats : {r : DefRefusal} (values : List Value) (types : List TypeDef)
         → HaveTypes values types → HasNoFault (IsNotGood files tests values types)
-        → IsFirstIn (HasFormat files) (Some r) → IsRefusedBy r
+        → IsFirstRefused files r → IsRefusedBy r

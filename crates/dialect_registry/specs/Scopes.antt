@@ -24,7 +24,7 @@ use Rattle.irdl_ops.specs.declared.raw.RawDef.{RawDef}
 use Rattle.irdl_ops.specs.declared.raw.RawDialect.{RawDialect}
 use Rattle.dialect_registry.specs.declared.names.NameMap.{NameMap}
 use Rattle.dialect_registry.specs.declared.names.NameSet.{NameSet}
-use Rattle.dialect_registry.specs.declared.refusal.DefRefusal.{DefRefusal}
+use Rattle.dialect_registry.specs.declared.refusal.FileFault.{FileFault}
 use Rattle.dialect_registry.specs.declared.scope.Scope.{Scope}
 use Rattle.dialect_registry.specs.declared.targets.Target.{Target}
 use Rattle.dialect_registry.specs.declared.targets.Targets.{Targets}
@@ -78,6 +78,6 @@ pub record Finds (dialects : List RawDialect) (t : Targets) : Type 0 where
   pub each : (d n : Text) → found t d n ≡ named dialects d n
 
 -- the fault that was found, or else this one in the file with this number
-abbrev pub or_in_file : Option DefRefusal → ℕ → Option Fault → Option DefRefusal
+abbrev pub or_in_file : Option FileFault → ℕ → Option Fault → Option FileFault
 or_in_file None n (Some f) = Some (record { file = n; place = f.place; code = f.code })
 or_in_file first n fault = first

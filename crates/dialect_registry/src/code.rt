@@ -24,8 +24,20 @@ pub enum DefCode {
     ChoiceLimit,
     /// A constant that has no good value.
     ConstantBad,
-    /// A format string, none of which is read yet.
+    /// A format string with a token that no format has at its place.
     FormatSyntax,
+    /// A name in a format that names nothing.
+    FormatUnknown,
+    /// A format that doesn't show something that has to be shown.
+    FormatMissing,
+    /// A format that shows something twice.
+    FormatRepeated,
+    /// A group or an anchor that isn't right.
+    FormatGroup,
+    /// A format in which one token doesn't decide.
+    FormatAmbiguous,
+    /// A format that doesn't show the type of an operand or a result.
+    FormatNoType,
     /// The name of no kind of head.
     BaseUnknown,
     /// A statement that stands a second time in its body.
@@ -38,7 +50,7 @@ pub enum DefCode {
 
 impl DefCode {
     ghost use Rattle.dialect_registry.specs.declared.code.DefCode.{DefCode};
-    ghost use Rattle.dialect_registry.specs.Codes.{code_number, code_name, code_detail};
+    ghost use Rattle.dialect_registry.specs.Codes.{code_number, code_name};
 
     /// The rule of a number, where a rule has it.
     pub fn of_number(number: u32) -> Option<DefCode>
@@ -54,6 +66,12 @@ impl DefCode {
             7 => Some(DefCode::ChoiceLimit),
             8 => Some(DefCode::ConstantBad),
             9 => Some(DefCode::FormatSyntax),
+            10 => Some(DefCode::FormatUnknown),
+            11 => Some(DefCode::FormatMissing),
+            12 => Some(DefCode::FormatRepeated),
+            13 => Some(DefCode::FormatGroup),
+            14 => Some(DefCode::FormatAmbiguous),
+            15 => Some(DefCode::FormatNoType),
             16 => Some(DefCode::BaseUnknown),
             17 => Some(DefCode::StatementRepeated),
             18 => Some(DefCode::ReservedName),
@@ -76,6 +94,12 @@ impl DefCode {
             DefCode::ChoiceLimit => 7,
             DefCode::ConstantBad => 8,
             DefCode::FormatSyntax => 9,
+            DefCode::FormatUnknown => 10,
+            DefCode::FormatMissing => 11,
+            DefCode::FormatRepeated => 12,
+            DefCode::FormatGroup => 13,
+            DefCode::FormatAmbiguous => 14,
+            DefCode::FormatNoType => 15,
             DefCode::BaseUnknown => 16,
             DefCode::StatementRepeated => 17,
             DefCode::ReservedName => 18,
@@ -97,20 +121,16 @@ impl DefCode {
             DefCode::ChoiceLimit => "ChoiceLimit",
             DefCode::ConstantBad => "ConstantBad",
             DefCode::FormatSyntax => "FormatSyntax",
+            DefCode::FormatUnknown => "FormatUnknown",
+            DefCode::FormatMissing => "FormatMissing",
+            DefCode::FormatRepeated => "FormatRepeated",
+            DefCode::FormatGroup => "FormatGroup",
+            DefCode::FormatAmbiguous => "FormatAmbiguous",
+            DefCode::FormatNoType => "FormatNoType",
             DefCode::BaseUnknown => "BaseUnknown",
             DefCode::StatementRepeated => "StatementRepeated",
             DefCode::ReservedName => "ReservedName",
             DefCode::VarLimit => "VarLimit",
-        }
-    }
-
-    /// What stands behind the rule's name in a report: where in a format string the fault is.
-    pub fn detail(&self) -> &str
-        ensures { result.now ≡ code_detail self.now }
-    {
-        match self {
-            DefCode::FormatSyntax => " at 0",
-            _ => "",
         }
     }
 }

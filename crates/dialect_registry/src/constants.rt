@@ -7,7 +7,7 @@ ghost use Rattle.constraint_solver.specs.Grown.{Extends};
 ghost use Rattle.first_fault.specs.Firsts.{IsFirst};
 ghost use Rattle.native_predicate.specs.Lists.{count, tests};
 ghost use Rattle.dialect_registry.specs.ConstantFaults as spec;
-ghost use Rattle.dialect_registry.specs.ConstantFaults.{IsFaultIn, IsFaultOfFile, IsFormatFault};
+ghost use Rattle.dialect_registry.specs.ConstantFaults.{IsFaultIn, IsFaultOfFile};
 ghost use Rattle.dialect_registry.specs.ConstantFaults.{IsConstantFault, IsExprConstantFault};
 ghost use Rattle.irdl_ops.specs.declared.raw.RawExpr.TheVariants.{Is};
 ghost use Rattle.dialect_registry.specs.DefFaults.{IsFirstIn};
@@ -15,7 +15,7 @@ ghost use Rattle.dialect_registry.specs.Parts.{Among};
 
 use crate::code::{DefCode, fault_if};
 use crate::judging::or_in_file;
-use crate::refusal::DefRefusal;
+use crate::refusal::FileFault;
 use attr_uniquer::Uniquer;
 use first_fault::{Fault, earlier};
 use generic_syntax::ValueCst;
@@ -38,7 +38,7 @@ pub fn judge_constants(
     ground: &Ground,
     u: &mut Uniquer,
     files: &[RawDefs],
-) -> Result<Option<DefRefusal>, AllocError>
+) -> Result<Option<FileFault>, AllocError>
     requires types { AreSoundDefs (length u.old) (count ground.now.natives.now)
         ground.now.types.now }
     ensures later { Extends u.old u.new }

@@ -19,7 +19,7 @@ use crate::code::{DefCode, fault_if};
 use crate::limits::judge_variables;
 use crate::name_shapes::{is_bad_dialect, is_bare_id};
 use crate::names::NameSet;
-use crate::refusal::DefRefusal;
+use crate::refusal::FileFault;
 use crate::statement::judge_statements;
 use crate::targets::Targets;
 use first_fault::{Fault, earlier};
@@ -34,7 +34,7 @@ pub fn judge(
     alloc: Global,
     files: &[RawDefs],
     natives: &Natives,
-) -> Result<Option<DefRefusal>, AllocError>
+) -> Result<Option<FileFault>, AllocError>
     ensures first { IfOk result (IsFirstIn (IsFault files.now (names title natives.now))) }
     ensures rule { IfOk result (λ first. IfSome first (λ refusal. IsRule refusal.code)) }
 {
@@ -48,7 +48,7 @@ pub fn judge_by(
     targets: &Targets,
     files: &[RawDefs],
     natives: &Natives,
-) -> Result<Option<DefRefusal>, AllocError>
+) -> Result<Option<FileFault>, AllocError>
     requires { Finds (spec.dialects_of files.now) targets.now }
     ensures first { IfOk result (IsFirstIn (IsFault files.now (names title natives.now))) }
     ensures rule { IfOk result (λ first. IfSome first (λ refusal. IsRule refusal.code)) }
@@ -63,15 +63,11 @@ pub fn judge_by(
 }
 
 /// The fault that was found, or else the fault in the file with this number.
-pub fn or_in_file(
-    first: Option<DefRefusal>,
-    file: usize,
-    fault: Option<Fault>,
-) -> Option<DefRefusal>
+pub fn or_in_file(first: Option<FileFault>, file: usize, fault: Option<Fault>) -> Option<FileFault>
     ensures { result ≡ seen.or_in_file first file fault }
 {
     match (first, fault) {
-        (None, Some(Fault { place, code })) => Some(DefRefusal { file, place, code }),
+        (None, Some(Fault { place, code })) => Some(FileFault { file, place, code }),
         _ => first,
     }
 }

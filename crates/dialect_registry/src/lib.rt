@@ -24,14 +24,16 @@ mod scope;
 mod shape;
 mod statement;
 mod targets;
+mod told;
 
 pub use code::DefCode;
 pub use judging::judge;
 pub use limits::CHOICE_LIMIT;
 pub use loading::{DefStop, load};
 pub use operations::Operations;
-pub use refusal::DefRefusal;
+pub use refusal::{DefRefusal, FileFault};
 pub use registry::Registry;
+pub use told::detail;
 pub use value_meaning::{Aliases, Definitions, ValueStop, define_alias, value_in};
 
 #[cfg(test)]

@@ -21,11 +21,15 @@ pub struct Operations {
 
 impl Model for Operations {
     ghost use Rattle.std.specs.Prelude.{List, bytes_eq};
+    ghost use Rattle.std.specs.Coded.{coded_list};
     ghost use Rattle.std.specs.HashMap.{get};
+    ghost use Rattle.dialect_defs.specs.contracts.definition.OpDef.{the_row};
     ghost use Rattle.dialect_defs.specs.declared.definition.OpDef.{OpDef as Definition};
     ghost use Rattle.dialect_registry.specs.Registered.{ArePlaced};
 
     ghost Value = { List Definition };
+
+    ghost coded = { coded_list the_row.coded };
 
     ghost view = { λ o. o.list.items };
 

@@ -14,7 +14,10 @@ ghost use Rattle.dialect_registry.specs.Registered.{place_of};
 use crate::operations::Operations;
 use attr_uniquer::Uniquer;
 use attr_value::{BaseKind, List, Text, ValueId};
-use dialect_defs::{AttrEntry, BaseRef, Body, Constraint, OpDef, RegionEntry, TypeDef, VarId};
+use dialect_defs::{
+    AttrEntry, BaseRef, Body, Constraint, Element, ElementKind, Format, OpDef, RegionEntry,
+    TypeDef, VarId,
+};
 use generic_syntax::ValueCst;
 use native_predicate::Natives;
 use std::alloc::{AllocError, Global};
@@ -31,9 +34,13 @@ pub struct Registry {
 }
 
 impl Model for Registry {
+    ghost use Rattle.std.specs.Coded.{codes};
+    ghost use Rattle.dialect_defs.specs.contracts.definition.OpDef as op;
     ghost use Rattle.dialect_registry.specs.Registered.{Registered};
 
     ghost Value = { Registered };
+
+    ghost coded = { Prim.hlevel (codes, op.the_row.coded) };
 
     ghost view = { λ r. record { ops = r.ops; types = r.types } };
 }
@@ -116,6 +123,35 @@ fn list_of<T: Drop>(alloc: Global, item: T) -> Result<List<T>, AllocError>
     Ok(list)
 }
 
+/// How the operation that is always there is written:
+/// ``(symbol($sym_name)^)? attr-dict-with-keyword $body``.
+fn module_format(alloc: Global) -> Result<Format, AllocError>
+    ensures { IfOk result (λ format. format ≡ spec.module_format) }
+{
+    let name = Element {
+        at: 1,
+        kind: ElementKind::SymbolName(0),
+    };
+    let mut elements = List::new(alloc);
+    elements.push(Element {
+        at: 0,
+        kind: ElementKind::Group {
+            first: list_of(alloc, name)?,
+            otherwise: List::new(alloc),
+            anchor: 0,
+        },
+    })?;
+    elements.push(Element {
+        at: 22,
+        kind: ElementKind::DictKeyword,
+    })?;
+    elements.push(Element {
+        at: 45,
+        kind: ElementKind::Region(0),
+    })?;
+    Ok(Format { elements })
+}
+
 /// The operation that is always there.
 pub fn module_op(alloc: Global) -> Result<OpDef, AllocError>
     ensures { IfOk result (λ op. op ≡ spec.module_op) }
@@ -143,5 +179,6 @@ pub fn module_op(alloc: Global) -> Result<OpDef, AllocError>
         regions: list_of(alloc, body)?,
         successors: List::new(alloc),
         terminator: false,
+        format: Some(module_format(alloc)?),
     })
 }

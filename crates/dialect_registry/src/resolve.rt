@@ -9,8 +9,8 @@ mod names;
 ghost use Rattle.std.specs.Prelude.{◌≡◌};
 
 pub use constraint::{Env, full_name};
-pub use definition::{Resolved, resolve};
-pub use lists::parameters_in;
+pub use definition::{Resolved, op_shape, resolve};
+pub use lists::{format_in, parameters_in};
 use std::alloc::AllocError;
 
 /// Why definitions aren't resolved.

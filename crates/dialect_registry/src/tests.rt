@@ -279,6 +279,12 @@ fn each_rule_has_a_number_and_a_name(rt: HostRuntime) {
         (DefCode::ChoiceLimit, 7, "ChoiceLimit"),
         (DefCode::ConstantBad, 8, "ConstantBad"),
         (DefCode::FormatSyntax, 9, "FormatSyntax"),
+        (DefCode::FormatUnknown, 10, "FormatUnknown"),
+        (DefCode::FormatMissing, 11, "FormatMissing"),
+        (DefCode::FormatRepeated, 12, "FormatRepeated"),
+        (DefCode::FormatGroup, 13, "FormatGroup"),
+        (DefCode::FormatAmbiguous, 14, "FormatAmbiguous"),
+        (DefCode::FormatNoType, 15, "FormatNoType"),
         (DefCode::BaseUnknown, 16, "BaseUnknown"),
         (DefCode::StatementRepeated, 17, "StatementRepeated"),
         (DefCode::ReservedName, 18, "ReservedName"),
@@ -287,7 +293,7 @@ fn each_rule_has_a_number_and_a_name(rt: HostRuntime) {
         assert_eq!(rt; (code.number(), code.name()), (number, name), "{code:?}");
         assert_eq!(rt; DefCode::of_number(number), Some(code), "{number}");
     }
-    for number in [0, 10, 15, 20] {
+    for number in [0, 20] {
         assert_eq!(rt; DefCode::of_number(number), None, "{number}");
     }
 }

@@ -31,6 +31,7 @@ fn operation(alloc: Global) -> Result<OpDef, AllocError> {
         regions: List::new(alloc),
         successors: List::new(alloc),
         terminator: false,
+        format: None,
     })
 }
 
@@ -241,6 +242,7 @@ fn operation_of(alloc: Global, parts: &Parts) -> Result<OpDef, AllocError> {
         regions: regions(alloc, parts.regions)?,
         successors: List::new(alloc),
         terminator: parts.terminator,
+        format: None,
     })
 }
 

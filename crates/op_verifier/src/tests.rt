@@ -63,6 +63,7 @@ fn definition(alloc: Global) -> Result<OpDef, AllocError> {
         regions: List::new(alloc),
         successors: List::new(alloc),
         terminator: false,
+        format: None,
     })
 }
 

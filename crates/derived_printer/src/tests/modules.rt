@@ -136,6 +136,7 @@ fn definition(alloc: Global, name: &[u8]) -> Result<OpDef, AllocError> {
         regions: List::new(alloc),
         successors: List::new(alloc),
         terminator: false,
+        format: None,
     })
 }
 

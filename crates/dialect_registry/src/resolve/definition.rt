@@ -5,9 +5,11 @@ ghost use Rattle.constraint_solver.specs.Definitions.{AreSoundDefs};
 ghost use Rattle.constraint_solver.specs.Grown.{Extends};
 ghost use Rattle.native_predicate.specs.Lists.{count, names, tests};
 ghost use Rattle.dialect_registry.specs.DefFaults.{dialects_of};
+ghost use Rattle.dialect_registry.specs.FormatFaults as formats;
 ghost use Rattle.dialect_registry.specs.Resolved as spec;
 ghost use Rattle.dialect_registry.specs.Resolved.{IsOp, IsType, Located, located};
-ghost use Rattle.dialect_registry.specs.Resolving.{HasOne, IsBadDef, IsBadDialect, IsBadFile, Resolves};
+ghost use Rattle.dialect_registry.specs.Resolving.{HasOne, IsBadDef, IsBadDialect, IsBadFile};
+ghost use Rattle.dialect_registry.specs.Resolving.{Names, Resolves};
 ghost use Rattle.dialect_registry.specs.Scopes.{Finds};
 ghost use Rattle.dialect_registry.specs.Targets.{World};
 
@@ -16,7 +18,8 @@ use crate::resolve::entries::{attrs, entries, regions, successors};
 use crate::resolve::names::BodyNames;
 use crate::resolve::{ResolveStop, lists};
 use attr_uniquer::Uniquer;
-use dialect_defs::{OpDef, TypeDef};
+use attr_value::List;
+use dialect_defs::{Body, OpDef, TypeDef};
 use irdl_ops::{DefKind, RawDef, RawDefs, RawDialect};
 use std::alloc::{AllocError, Global};
 
@@ -41,7 +44,43 @@ fn type_def(env: &Env, u: &mut Uniquer, own: &[u8], def: &RawDef) -> Result<Type
     })
 }
 
-/// An operation of a dialect.
+/// An operation of a dialect with this body and no format.
+fn op_of(
+    alloc: Global,
+    known: &BodyNames,
+    own: &[u8],
+    def: &RawDef,
+    body: Body,
+) -> Result<OpDef, AllocError>
+    requires known { Names def.now.statements known.now }
+    ensures { IfOk result (λ op. op ≡ formats.op_of (located own.now def.now) body) }
+{
+    let statements = def.statements.as_slice();
+    Ok(OpDef {
+        name: full_name(alloc, own, def.name.bytes())?,
+        body,
+        operands: entries(alloc, known, lists::operands_in(statements))?,
+        results: entries(alloc, known, lists::results_in(statements))?,
+        attrs: attrs(alloc, known, lists::attrs_in(statements))?,
+        regions: regions(alloc, known, lists::regions_in(statements))?,
+        successors: successors(alloc, lists::successors_in(statements))?,
+        terminator: lists::is_terminator(statements),
+        format: None,
+    })
+}
+
+/// An operation of a dialect as far as its lists go.
+pub fn op_shape(alloc: Global, own: &[u8], def: &RawDef) -> Result<OpDef, AllocError>
+    ensures { IfOk result (λ op. op ≡ formats.op_shape (located own.now def.now)) }
+{
+    let known = BodyNames::of(alloc, def.statements.as_slice())?;
+    let body = Body {
+        vars: List::new(alloc),
+    };
+    op_of(alloc, &known, own, def, body)
+}
+
+/// An operation of a dialect, without its format.
 fn op_def(env: &Env, u: &mut Uniquer, own: &[u8], def: &RawDef) -> Result<OpDef, ResolveStop>
     requires shapes { AreSoundDefs 0 (count env.now.natives.now) env.now.shapes.now }
     ensures later { Extends u.old u.new }
@@ -54,16 +93,8 @@ fn op_def(env: &Env, u: &mut Uniquer, own: &[u8], def: &RawDef) -> Result<OpDef,
 {
     let statements = def.statements.as_slice();
     let known = BodyNames::of(env.alloc, statements)?;
-    Ok(OpDef {
-        name: full_name(env.alloc, own, def.name.bytes())?,
-        body: body(env, u, &known, own)?,
-        operands: entries(env.alloc, &known, lists::operands_in(statements))?,
-        results: entries(env.alloc, &known, lists::results_in(statements))?,
-        attrs: attrs(env.alloc, &known, lists::attrs_in(statements))?,
-        regions: regions(env.alloc, &known, lists::regions_in(statements))?,
-        successors: successors(env.alloc, lists::successors_in(statements))?,
-        terminator: lists::is_terminator(statements),
-    })
+    let body = body(env, u, &known, own)?;
+    Ok(op_of(env.alloc, &known, own, def, body)?)
 }
 
 /// The definitions of files, in the order of the text.

@@ -1,11 +1,12 @@
 //! What a body lists first of each kind.
 
-ghost use Rattle.std.specs.Prelude.{◌≡◌};
+ghost use Rattle.std.specs.Prelude.{◌≡◌, option_map};
 ghost use Rattle.dialect_registry.specs.Resolved as spec;
+ghost use Rattle.dialect_registry.specs.FormatFaults as format;
 ghost use Rattle.dialect_registry.specs.Targets as target;
 
 use generic_syntax::NameCst;
-use irdl_ops::{RawAttr, RawEntry, RawStatement, StatementKind};
+use irdl_ops::{RawAttr, RawEntry, RawStatement, RawText, StatementKind};
 
 /// The parameters.
 pub fn parameters_in(statements: &[RawStatement]) -> &[RawEntry]
@@ -93,4 +94,16 @@ pub fn is_terminator(statements: &[RawStatement]) -> bool
     statements
         .iter()
         .any(|statement| ends_block(&statement.kind))
+}
+
+/// The format string.
+pub fn format_in(statements: &[RawStatement]) -> Option<&RawText>
+    ensures { option_map (λ text. text.now) result ≡ format.format_in statements.now }
+{
+    for statement in statements {
+        if let StatementKind::Format(text) = &statement.kind {
+            return Some(text);
+        }
+    }
+    None
 }

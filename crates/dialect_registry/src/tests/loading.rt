@@ -43,10 +43,10 @@ const LOADED: &[(&[&[DialectRow]], Outcome)] = &[
         ],
         Ok((2, 2)),
     ),
-    // a format string
+    // a format in which a name means nothing
     (
         &[&[((1, "a"), &[(OP, (2, "o"), &[Format(3)])])]],
-        Err((0, 3, 9)),
+        Err((0, 3, 10)),
     ),
 ];
 

@@ -24,8 +24,8 @@ resolve-resolved-requires g c = record {
       (sound-shapes c.args.raw.now 0 (count c.args.natives.now));
 }
 
-pub registry_of-requires : goal.registry_of-requires
-registry_of-requires g c =
+pub of-requires-in-Ok : goal.of-requires-in-Ok
+of-requires-in-Ok g c =
     let w = world_of c.args.raw.now (names (λ p. (goal.NativePredicate-dyn g p).title p.1) c.args.natives.now) in
     record {
       distinct = distinct-types c.args.raw.now (names (λ p. (goal.NativePredicate-dyn g p).title p.1) c.args.natives.now) c.requires.rules _
@@ -37,18 +37,16 @@ registry_of-requires g c =
 pub returns-in-Ok-clause-types : goal.returns-in-Ok-clause-types
 returns-in-Ok-clause-types g c =
     have-types c.args.raw.now (names (λ p. (goal.NativePredicate-dyn g p).title p.1) c.args.natives.now) (tests (λ p. (goal.NativePredicate-dyn g p).property p.1) c.args.natives.now) c.resolve-resolved.new.u c.in_ok-shapes.shapes c.in-Ok.resolved
-    c.in_ok-registry_of-in-Ok.field-0.types c.requires.rules
+    c.in_ok-of-in-Ok.field-0 c.requires.rules
     (c.in_ok-shapes.ensures ∙ c.in_ok-list.ensures)
     (c.in-Ok.ensures.ok (world_of c.args.raw.now (names (λ p. (goal.NativePredicate-dyn g p).title p.1) c.args.natives.now)) c.requires.targets refl)
-    c.in_ok-registry_of-in-Ok.ensures.types
+    c.in_ok-of-in-Ok.ensures
 
 pub returns-in-Ok-clause-ops : goal.returns-in-Ok-clause-ops
 returns-in-Ok-clause-ops g c =
     have-ops c.args.raw.now (names (λ p. (goal.NativePredicate-dyn g p).title p.1) c.args.natives.now) (tests (λ p. (goal.NativePredicate-dyn g p).property p.1) c.args.natives.now) c.resolve-resolved.new.u c.in_ok-shapes.shapes c.in-Ok.resolved
-    c.in_ok-registry_of-in-Ok.field-0.ops
     (c.in_ok-shapes.ensures ∙ c.in_ok-list.ensures)
     (c.in-Ok.ensures.ok (world_of c.args.raw.now (names (λ p. (goal.NativePredicate-dyn g p).title p.1) c.args.natives.now)) c.requires.targets refl)
-    c.in_ok-registry_of-in-Ok.ensures.ops
 
 pub returns-in-Err-BadConstant-clause-later : goal.returns-in-Err-BadConstant-clause-later
 returns-in-Err-BadConstant-clause-later g c =

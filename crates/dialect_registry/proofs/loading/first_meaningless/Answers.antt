@@ -4,6 +4,7 @@ use Rattle.constraint_solver.specs.Definitions.{AreSoundDefs}
 use Rattle.native_predicate.specs.Lists.{count, tests}
 use Rattle.dialect_registry.specs.ConstantFaults.{IsConstantFault, IsFaultIn}
 use Rattle.dialect_registry.specs.DefFaults.{IsFirstIn}
+use Rattle.dialect_registry.specs.Refusals.{fault_of}
 use Rattle.dialect_registry.proofs.BadConstants.{bad-fault}
 use Rattle.dialect_registry.proofs.NoAliases.{from-nothing}
 use Rattle.dialect_registry.proofs.SoundTypes.{sound-shapes}
@@ -32,8 +33,15 @@ returns-in-Ok-Some-clause-refused g c =
     subst (AreSoundDefs 0 (count c.args.natives.now)) (sym c.requires.shapes)
     (sound-shapes c.args.raw.now 0 (count c.args.natives.now)) in
     let first : IsFirstIn (IsFaultIn (IsConstantFault [] (tests (λ p. (goal.NativePredicate-dyn g p).property p.1) c.args.natives.now) c.args.shapes.now) c.args.raw.now)
-    (Some c.in-Ok-Some.refusal) =
+    (Some c.in-Ok-Some.fault) =
     rw c.in-Ok-Some.field-0-is at
     (c.in-Ok-Some.ensures.first [] (from-nothing c.args.u.now) sound) in
-    subst (λ s. IsFirstIn (IsFaultIn (IsConstantFault [] (tests (λ p. (goal.NativePredicate-dyn g p).property p.1) c.args.natives.now) s) c.args.raw.now)
-    (Some c.in-Ok-Some.refusal)) c.requires.shapes first
+    let told : IsFirstIn (IsFaultIn (IsConstantFault [] (tests (λ p. (goal.NativePredicate-dyn g p).property p.1) c.args.natives.now) c.args.shapes.now) c.args.raw.now)
+    (Some (fault_of c.plain.result)) =
+    subst (λ f. IsFirstIn (IsFaultIn (IsConstantFault [] (tests (λ p. (goal.NativePredicate-dyn g p).property p.1) c.args.natives.now) c.args.shapes.now) c.args.raw.now) (Some f))
+    (sym c.plain.ensures.fault) first in
+    record {
+      first = subst (λ s. IsFirstIn (IsFaultIn (IsConstantFault [] (tests (λ p. (goal.NativePredicate-dyn g p).property p.1) c.args.natives.now) s) c.args.raw.now)
+          (Some (fault_of c.plain.result))) c.requires.shapes told;
+      plain = c.plain.ensures.plain;
+    }
