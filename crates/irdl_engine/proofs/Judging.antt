@@ -16,6 +16,7 @@ use Rattle.ir_lexer.specs.Spelling.{Text}
 use Rattle.irdl_ops.specs.declared.raw.RawDefs.{RawDefs}
 use Rattle.dialect_registry.specs.declared.refusal.DefRefusal.{DefRefusal}
 use Rattle.dialect_registry.specs.Codes.{code_number}
+use Rattle.dialect_registry.specs.Details.{detail}
 use Rattle.dialect_registry.proofs.Walks.{slice_get-item}
 use Rattle.irdl_engine.specs.declared.stop.Refusal.{Refusal}
 use Rattle.irdl_engine.specs.declared.stop.Stop.{Stop}
@@ -23,7 +24,7 @@ use Rattle.irdl_engine.specs.declared.stop.Stop.TheVariants.{Unreadable, TooLong
 use Rattle.irdl_engine.specs.Answer.{MayAnswer, TellsRefusal, refused, place_at}
 use Rattle.irdl_engine.specs.Command.{Check}
 use Rattle.irdl_engine.specs.InOrder.{IsReached, text_at}
-use Rattle.irdl_engine.specs.Judged.{Predicates, SpellsFile, SpellFiles, IsOfForm, IsRefusedBy, IsSyntaxRefusal, refusal_in}
+use Rattle.irdl_engine.specs.Judged.{Predicates, SpellsFile, SpellFiles, IsOfForm, IsRefusedBy, IsSyntaxRefusal}
 use Rattle.irdl_engine.specs.Reading.{AreTextsOf}
 use Rattle.irdl_engine.specs.Said.{bytes_of, answer_of, IsWithin, StandsAt, IsTreeOf, Shows, IsVerdict}
 use Rattle.irdl_engine.specs.Words as words
@@ -66,31 +67,28 @@ stops-spelling natives texts trees file text (Refused r) before at h =
     ap (text_at texts) h.in_file ∙ text_at-there texts file text at in
     record {
       at = h.at;
-      refused = inl syntax;
+      refused = inl (syntax, h.nothing);
       stands = subst (λ t. StandsAt t r h.at) (sym here) h.stands;
     }
 
 -- the refusal of trees is that of the texts that spell them
 pub refuses : (natives : Predicates) (texts : List Text) (trees : List RawDefs) (found : DefRefusal)
-    (text : Text) (r : Refusal)
+    (r : Refusal)
     → SpellFiles texts trees → IsRefusedBy natives trees found
-    → slice_get texts found.file ≡ Some text
-    → r.file ≡ found.file → code_number r.code ≡ found.code → StandsAt text r found.place
+    → r.file ≡ found.file → code_number r.code ≡ found.code
+    → r.told.items ≡ detail r.code found → StandsAt (text_at texts found.file) r found.place
     → Shows natives texts r
-refuses natives texts trees found text r spelled broken at file rule stands =
-    let same : found ≡ refusal_in r.file found.place r.code =
-    λ i. record { file = sym file i; place = found.place; code = sym rule i } in
-    let here : text_at texts r.file ≡ text =
-    ap (text_at texts) file ∙ text_at-there texts found.file text at in
-    record {
-      at = found.place;
-      refused = inr (record {
-        defs = trees;
-        spelled = spelled;
-        refused = subst (IsRefusedBy natives trees) same broken;
-      });
-      stands = subst (λ t. StandsAt t r found.place) (sym here) stands;
-    }
+refuses natives texts trees found r spelled broken file rule told stands = record {
+  at = found.place;
+  refused = inr (record {
+    defs = trees;
+    spelled = spelled;
+    refusal = found;
+    refused = broken;
+    is = record { in_file = sym file; at = refl; rule = sym rule; told_is = told };
+  });
+  stands = subst (λ n. StandsAt (text_at texts n) r found.place) (sym file) stands;
+}
 
 -- a refusal of trees is in one of the texts
 pub refused-in-texts : (natives : Predicates) (texts : List (Vec ℕ Global)) (trees : List RawDefs)
@@ -111,10 +109,11 @@ verdict-within natives texts (Unreadable n) h = absurd h
 verdict-within natives texts (TooLong n) h = absurd h
 verdict-within natives texts OutOfMemory h = tt
 verdict-within natives texts (Refused r) h = elim h.refused [
-  | inl x ↦ slice_get_within texts r.file x.text x.reached.there
+  | inl x ↦ slice_get_within texts r.file x.0.text x.0.reached.there
   | inr x ↦
       subst (λ n. r.file < n) (sym (zip-length SpellsFile texts x.defs x.spelled))
-      (refused-within natives x.defs (refusal_in r.file h.at r.code) x.refused)
+      (subst (λ n. n < length x.defs) x.is.in_file
+      (refused-within natives x.defs x.refusal x.refused))
 ]
 
 -- the same of any verdict, where there are as many texts as names
@@ -140,13 +139,15 @@ module _ (natives : Predicates) (m : FileMap) (failed : Type 0) (names texts : L
       let column = h.stands.column in
       let place : r.place ≡ place_at (text_at texts r.file) h.at =
       λ i. record { line = line i; column = column i } in
-      let told : TellsRefusal natives names texts (refused (text_at names r.file) r.place r.code) =
+      let told : TellsRefusal natives names texts
+      (refused (text_at names r.file) r.place r.code r.told.items) =
       record {
         file = r.file;
         place = h.at;
         code = r.code;
+        told = r.told.items;
         refused = h.refused;
-        is = ap (λ at. refused (text_at names r.file) at r.code) place;
+        is = ap (λ at. refused (text_at names r.file) at r.code r.told.items) place;
       } in
       inl (inr (texts, has, inr told))
 

@@ -12,10 +12,10 @@ use Rattle.irdl_engine.specs.InOrder.{text_at}
 use Rattle.irdl_engine.specs.Said.{said}
 
 -- the line of a refusal has bytes
-refused-line : (name : Text) (place : LineCol) (code : DefCode)
-    → (refused name place code).err ≡ [] → ⊥
-refused-line [] place code e = absurd (cc)
-refused-line (b ∷ name) place code e = absurd (cc)
+refused-line : (name : Text) (place : LineCol) (code : DefCode) (told : Text)
+    → (refused name place code told).err ≡ [] → ⊥
+refused-line [] place code told e = absurd (cc)
+refused-line (b ∷ name) place code told e = absurd (cc)
 
 -- the line of a stop has bytes
 pub said-line : (names : List Text) (stop : Stop) (a : Answer) → said names stop ≡ Some a
@@ -23,8 +23,8 @@ pub said-line : (names : List Text) (stop : Stop) (a : Answer) → said names st
 said-line names (Unreadable n) a s e = absurd (cc)
 said-line names (TooLong n) a s e = absurd (cc)
 said-line names (Refused r) a s e =
-    let same = same_Some (refused (text_at names r.file) r.place r.code) a s in
-    refused-line (text_at names r.file) r.place r.code (ap (λ x. x.err) same ∙ e)
+    let same = same_Some (refused (text_at names r.file) r.place r.code r.told.items) a s in
+    refused-line (text_at names r.file) r.place r.code r.told.items (ap (λ x. x.err) same ∙ e)
 said-line names OutOfMemory a s e = absurd (cc)
 
 -- the usage line has bytes

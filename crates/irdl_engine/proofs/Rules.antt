@@ -1,14 +1,16 @@
 -- The rules that judged files keep or break: all that is used of the two words for them.
-use Rattle.std.proofs.Common.{◌≡◌, ◌<◌, ℕ, List, length, subst}
+use Rattle.std.proofs.Common.{◌≡◌, ◌<◌, ℕ, List, length, sym, ◌∙◌, ap, subst}
 use Rattle.irdl_ops.specs.declared.raw.RawDefs.{RawDefs}
 use Rattle.dialect_registry.specs.declared.code.DefCode.{DefCode}
 use Rattle.dialect_registry.specs.declared.loading.DefStop.{DefStop}
 use Rattle.dialect_registry.specs.declared.loading.DefStop.TheVariants.{Refused}
 use Rattle.dialect_registry.specs.declared.refusal.DefRefusal.{DefRefusal}
+use Rattle.ir_lexer.specs.Spelling.{Text}
+use Rattle.dialect_registry.specs.Details.{detail}
 use Rattle.dialect_registry.specs.Refusals.{Refuses}
 use Rattle.dialect_registry.proofs.Codes.{code_number-same}
 use Rattle.dialect_registry.proofs.OneRefusal as one
-use Rattle.irdl_engine.specs.Judged.{Predicates, AreAccepted, IsRefusedBy, refusal_in}
+use Rattle.irdl_engine.specs.Judged.{Predicates, AreAccepted, IsRefusedBy, IsToldAs}
 
 -- files that keep all rules aren't refused
 pub not-accepted-and-refused : (natives : Predicates) (defs : List RawDefs) (r : DefRefusal)
@@ -29,13 +31,21 @@ pub refused-once : (natives : Predicates) (defs : List RawDefs) (r s : DefRefusa
 refused-once natives defs r s x y =
     one.refused-once defs natives.names natives.tests r s x.refused y.refused
 
--- the same of a refusal by its parts
-pub one-refusal : (natives : Predicates) (defs : List RawDefs) (m n p q : ℕ) (c e : DefCode)
-    → IsRefusedBy natives defs (refusal_in m p c) → IsRefusedBy natives defs (refusal_in n q e)
-    → (m ≡ n) × (p ≡ q) × (c ≡ e)
-one-refusal natives defs m n p q c e x y =
-    let same = refused-once natives defs (refusal_in m p c) (refusal_in n q e) x y in
-    (λ i. (same i).file, λ i. (same i).place, code_number-same c e (λ i. (same i).code))
+-- the same of what is told of them
+pub one-refusal : (natives : Predicates) (defs : List RawDefs) (r s : DefRefusal)
+    (m n p q : ℕ) (c e : DefCode) (a b : Text) → IsRefusedBy natives defs r
+    → IsRefusedBy natives defs s → IsToldAs r m p c a → IsToldAs s n q e b
+    → (m ≡ n) × (p ≡ q) × (c ≡ e) × (a ≡ b)
+one-refusal natives defs r s m n p q c e a b x y t u =
+    let same = refused-once natives defs r s x y in
+    let rule = code_number-same c e
+    (sym t.rule ∙ ap (λ (z : DefRefusal). z.code) same ∙ u.rule) in
+    (
+      sym t.in_file ∙ ap (λ (z : DefRefusal). z.file) same ∙ u.in_file,
+      sym t.at ∙ ap (λ (z : DefRefusal). z.place) same ∙ u.at,
+      rule,
+      t.told_is ∙ ap (λ z. detail z r) rule ∙ ap (detail e) same ∙ sym u.told_is,
+    )
 
 -- what holds of a stop that is a refusal holds of the refusal
 pub refuses-this : (P : DefRefusal → Type 0) {stop : DefStop} {r : DefRefusal} → stop ≡ Refused r

@@ -21,7 +21,7 @@ use Rattle.irdl_engine.specs.declared.status.Status.TheVariants.{Done, OutOfMemo
 use Rattle.irdl_engine.specs.Answer.{Answer, Accepted, TellsUnread, TellsFirstUnread, Judged, Checked, Obeys, MayAnswer}
 use Rattle.irdl_engine.specs.Answer.{done, refused_in}
 use Rattle.irdl_engine.specs.Command.{Command, Check}
-use Rattle.irdl_engine.specs.Judged.{Predicates, AreDefinitions, AreRefusedAt, IsOfForm, SpellsFile, SpellFiles, IsSyntaxRefusal, IsTokenRefusal, IsRefusedBy, refusal_in}
+use Rattle.irdl_engine.specs.Judged.{Predicates, AreDefinitions, AreRefusedAt, IsOfForm, SpellsFile, SpellFiles, IsSyntaxRefusal, IsTokenRefusal, IsRefusedBy}
 use Rattle.irdl_engine.specs.Reading.{IsTextOf, AreTextsOf, IsRead}
 use Rattle.irdl_engine.specs.Writes.{Change, GivesAll, GivesFronts, GivesPlanned, MayGive}
 use Rattle.irdl_engine.proofs.Items.{reached-once, zip-there, zip-once}
@@ -78,13 +78,14 @@ spelled-or-syntax texts defs file place code spelled x =
 
 -- definition files aren't refused
 accepted-or-refused : (natives : Predicates) (texts : List Text) (file place : ℕ) (code : DefCode)
-    → AreDefinitions natives texts → AreRefusedAt natives texts file place code → ⊥
-accepted-or-refused natives texts file place code d (inl x) =
-    spelled-or-syntax texts d.defs file place code d.spelled x
-accepted-or-refused natives texts file place code d (inr x) =
+    (told : Text) → AreDefinitions natives texts → AreRefusedAt natives texts file place code told
+    → ⊥
+accepted-or-refused natives texts file place code told d (inl x) =
+    spelled-or-syntax texts d.defs file place code d.spelled x.0
+accepted-or-refused natives texts file place code told d (inr x) =
     let same : x.defs ≡ d.defs = all-spelled-once texts x.defs d.defs x.spelled d.spelled in
-    not-accepted-and-refused natives d.defs (refusal_in file place code) d.accepted
-    (subst (λ l. IsRefusedBy natives l (refusal_in file place code)) same x.refused)
+    not-accepted-and-refused natives d.defs x.refusal d.accepted
+    (subst (λ l. IsRefusedBy natives l x.refusal) same x.refused)
 
 -- two refusals for tokens are in one file, at one place, by one rule
 one-syntax : (texts : List Text) (m n p q : ℕ) (c e : DefCode)
@@ -96,39 +97,42 @@ one-syntax texts m n p q c e x y =
     (subst (λ (t : Text). IsTokenRefusal t p c) same.1 x.refused) y.refused in
     (same.0, one.0, one.1)
 
-one-place : (natives : Predicates) (texts : List Text) (m n p q : ℕ) (c e : DefCode)
-    → AreRefusedAt natives texts m p c → AreRefusedAt natives texts n q e
-    → (m ≡ n) × (p ≡ q) × (c ≡ e)
-one-place natives texts m n p q c e (inl x) (inl y) = one-syntax texts m n p q c e x y
-one-place natives texts m n p q c e (inl x) (inr y) =
-    absurd (spelled-or-syntax texts y.defs m p c y.spelled x)
-one-place natives texts m n p q c e (inr x) (inl y) =
-    absurd (spelled-or-syntax texts x.defs n q e x.spelled y)
-one-place natives texts m n p q c e (inr x) (inr y) =
+one-place : (natives : Predicates) (texts : List Text) (m n p q : ℕ) (c e : DefCode) (a b : Text)
+    → AreRefusedAt natives texts m p c a → AreRefusedAt natives texts n q e b
+    → (m ≡ n) × (p ≡ q) × (c ≡ e) × (a ≡ b)
+one-place natives texts m n p q c e a b (inl x) (inl y) =
+    let one = one-syntax texts m n p q c e x.0 y.0 in (one.0, one.1, one.2, x.1 ∙ sym y.1)
+one-place natives texts m n p q c e a b (inl x) (inr y) =
+    absurd (spelled-or-syntax texts y.defs m p c y.spelled x.0)
+one-place natives texts m n p q c e a b (inr x) (inl y) =
+    absurd (spelled-or-syntax texts x.defs n q e x.spelled y.0)
+one-place natives texts m n p q c e a b (inr x) (inr y) =
     let same : x.defs ≡ y.defs = all-spelled-once texts x.defs y.defs x.spelled y.spelled in
-    one-refusal natives y.defs m n p q c e
-    (subst (λ l. IsRefusedBy natives l (refusal_in m p c)) same x.refused) y.refused
+    one-refusal natives y.defs x.refusal y.refusal m n p q c e a b
+    (subst (λ l. IsRefusedBy natives l x.refusal) same x.refused) y.refused x.is y.is
 
--- the same file, place and rule give the same answer
-same-refused : (names texts : List Text) (m n p q : ℕ) (c e : DefCode)
-    → (m ≡ n) × (p ≡ q) × (c ≡ e)
-    → refused_in names texts m p c ≡ refused_in names texts n q e
-same-refused names texts m n p q c e u =
-    ap (λ x. refused_in names texts x p c) u.0
-    ∙ ap (λ x. refused_in names texts n x c) u.1
-    ∙ ap (λ x. refused_in names texts n q x) u.2
+-- the same file, place, rule and detail give the same answer
+same-refused : (names texts : List Text) (m n p q : ℕ) (c e : DefCode) (a b : Text)
+    → (m ≡ n) × (p ≡ q) × (c ≡ e) × (a ≡ b)
+    → refused_in names texts m p c a ≡ refused_in names texts n q e b
+same-refused names texts m n p q c e a b u =
+    ap (λ x. refused_in names texts x p c a) u.0
+    ∙ ap (λ x. refused_in names texts n x c a) u.1
+    ∙ ap (λ x. refused_in names texts n q x a) u.2
+    ∙ ap (λ x. refused_in names texts n q e x) u.3
 
 judged-once : (natives : Predicates) (names texts : List Text) (a b : Answer)
     → Judged natives names texts a → Judged natives names texts b → a ≡ b
 judged-once natives names texts a b (inl x) (inl y) = x.1 ∙ sym y.1
 judged-once natives names texts a b (inl x) (inr y) =
-    absurd (accepted-or-refused natives texts y.file y.place y.code x.0 y.refused)
+    absurd (accepted-or-refused natives texts y.file y.place y.code y.told x.0 y.refused)
 judged-once natives names texts a b (inr x) (inl y) =
-    absurd (accepted-or-refused natives texts x.file x.place x.code y.0 x.refused)
+    absurd (accepted-or-refused natives texts x.file x.place x.code x.told y.0 x.refused)
 judged-once natives names texts a b (inr x) (inr y) =
     x.is
-    ∙ same-refused names texts x.file y.file x.place y.place x.code y.code
-    (one-place natives texts x.file y.file x.place y.place x.code y.code x.refused y.refused)
+    ∙ same-refused names texts x.file y.file x.place y.place x.code y.code x.told y.told
+    (one-place natives texts x.file y.file x.place y.place x.code y.code x.told y.told x.refused
+    y.refused)
     ∙ sym y.is
 
 -- ---- one answer

@@ -10,9 +10,10 @@
 --   read_fault name          the answer for a file that isn't there or can't be read
 --   input_limit name         the answer for a file that is too long
 --   name_line title name     the line of these two: a title and a name
---   refused name place code  the answer for a refused file
+--   refused name place code told
+--                            the answer for a refused file
 --   place_at src place       the line and the column of a place of a text
---   refused_in names texts file place code
+--   refused_in names texts file place code told
 --                            the answer for a refusal in the file with this number
 --   TellsUnread name found a a is the answer for a file that isn't there or is too long
 --   TellsFirstUnread files names a
@@ -47,7 +48,7 @@ use Rattle.dialect_registry.specs.declared.code.DefCode.{DefCode}
 use Rattle.irdl_engine.specs.declared.status.Status.{Status}
 use Rattle.irdl_engine.specs.declared.status.Status.TheVariants.{Done, DefinitionRefused, Usage}
 use Rattle.irdl_engine.specs.declared.status.Status.TheVariants.{ReadFault, InputLimit}
-use Rattle.dialect_registry.specs.Codes.{code_number, code_name, code_detail}
+use Rattle.dialect_registry.specs.Codes.{code_number, code_name}
 use Rattle.irdl_engine.specs.Command.{Command, Check, files_of}
 use Rattle.irdl_engine.specs.InOrder.{IsReached, text_at}
 use Rattle.irdl_engine.specs.Judged.{Predicates, AreDefinitions, AreRefusedAt}
@@ -86,12 +87,13 @@ abbrev pub input_limit : Text → Answer
 input_limit name =
     record { status = InputLimit; out = []; err = name_line (codes "input limit: ") name }
 
--- a file of this name is refused at this place, by this rule: `FILE:LINE:COLUMN: error CODE NAME`
-abbrev pub refused : Text → LineCol → DefCode → Answer
-refused name place code = record {
+-- a file of this name is refused at this place, by this rule: `FILE:LINE:COLUMN: error CODE NAME`,
+-- and what else is told
+abbrev pub refused : Text → LineCol → DefCode → Text → Answer
+refused name place code told = record {
   status = DefinitionRefused;
   out = [];
-  err = refusal_line name place (decimal (code_number code)) (code_name code) (code_detail code);
+  err = refusal_line name place (decimal (code_number code)) (code_name code) told;
 }
 
 -- the line and the column of a place of a text
@@ -99,9 +101,9 @@ abbrev pub place_at : Text → ℕ → LineCol
 place_at src place = record { line = line_at src place; column = column_at src place }
 
 -- a refusal in the file with this number, which is told by its name
-abbrev pub refused_in : List Text → List Text → ℕ → ℕ → DefCode → Answer
-refused_in names texts file place code =
-    refused (text_at names file) (place_at (text_at texts file) place) code
+abbrev pub refused_in : List Text → List Text → ℕ → ℕ → DefCode → Text → Answer
+refused_in names texts file place code told =
+    refused (text_at names file) (place_at (text_at texts file) place) code told
 
 -- a file that isn't there is a read fault, and one that is too long isn't judged
 abbrev pub TellsUnread : Text → Option Text → Answer → Type 0
@@ -120,8 +122,9 @@ pub record TellsRefusal (natives : Predicates) (names texts : List Text) (a : An
   pub file : ℕ
   pub place : ℕ
   pub code : DefCode
-  pub refused : AreRefusedAt natives texts file place code
-  pub is : a ≡ refused_in names texts file place code
+  pub told : Text
+  pub refused : AreRefusedAt natives texts file place code told
+  pub is : a ≡ refused_in names texts file place code told
 
 -- texts are accepted, or refused
 abbrev pub Judged : Predicates → List Text → List Text → Answer → Type 0

@@ -7,7 +7,9 @@
 --                              what is known of the predicates that a program is given
 --   AreAccepted natives defs   these definition files keep all rules
 --   IsRefusedBy natives defs r r is the first rule that they break, with its file and place
---   refusal_in file place code the refusal by this rule, in this file, at this place
+--   IsToldAs r file place code told
+--                              the refusal is by this rule, in this file, at this place, and this
+--                              is told of it
 --   rule_of syntax             the rule that a refused token breaks
 --   SpellsFile src defs        the tokens of src are this definition file, whatever it breaks
 --   IsOfForm src               src spells some definition file
@@ -18,12 +20,12 @@
 --                              the texts spell definition files that keep all rules
 --   IsSyntaxRefusal texts file place code
 --                              the first text that spells no file is this, and is refused there
---   IsRuleRefusal natives texts file place code
+--   IsRuleRefusal natives texts file place code told
 --                              all texts spell files, which break this rule first
---   AreRefusedAt natives texts file place code
+--   AreRefusedAt natives texts file place code told
 --                              the texts are refused by this rule, at this place of the text with
---                              this number, counted from 0
-use Rattle.std.specs.Prelude.{◌≡◌, ◌⊎◌, ℕ, List}
+--                              this number, counted from 0, and this is told of the refusal
+use Rattle.std.specs.Prelude.{◌≡◌, ◌⊎◌, ℕ, List, []}
 use Rattle.std.specs.List.{AllZip}
 use Rattle.std.specs.declared.option.Option.TheVariants.{Some, None}
 use Rattle.attr_value.specs.Values.{Value}
@@ -42,6 +44,7 @@ use Rattle.dialect_registry.specs.declared.code.DefCode.{DefCode}
 use Rattle.dialect_registry.specs.declared.code.DefCode.TheVariants as code
 use Rattle.dialect_registry.specs.declared.refusal.DefRefusal.{DefRefusal}
 use Rattle.dialect_registry.specs.Codes.{code_number}
+use Rattle.dialect_registry.specs.Details.{detail}
 use Rattle.dialect_registry.specs.Loaded.{AreLoaded, IsRefusedBy as Refused}
 use Rattle.irdl_engine.specs.InOrder.{IsReached}
 
@@ -68,9 +71,13 @@ pub record AreAccepted (natives : Predicates) (defs : List RawDefs) : Type 0 whe
 pub record IsRefusedBy (natives : Predicates) (defs : List RawDefs) (r : DefRefusal) : Type 0 where
   pub refused : Refused defs natives.names natives.tests r
 
--- the refusal by this rule, in the file with this number, at this place
-abbrev pub refusal_in : ℕ → ℕ → DefCode → DefRefusal
-refusal_in file place code = record { file = file; place = place; code = code_number code }
+-- a refusal by this rule, in the file with this number, at this place, of which this is told
+pub record IsToldAs (r : DefRefusal) (file place : ℕ) (code : DefCode) (told : Text)
+    : Type 0 where
+  pub in_file : r.file ≡ file
+  pub at : r.place ≡ place
+  pub rule : r.code ≡ code_number code
+  pub told_is : told ≡ detail code r
 
 -- ---- syntax
 
@@ -119,13 +126,16 @@ pub record IsSyntaxRefusal (texts : List Text) (file place : ℕ) (code : DefCod
 
 -- Texts that spell definition files, and the first rule that these break.
 pub record IsRuleRefusal (natives : Predicates) (texts : List Text) (file place : ℕ)
-    (code : DefCode) : Type 0 where
+    (code : DefCode) (told : Text) : Type 0 where
   pub defs : List RawDefs
   pub spelled : SpellFiles texts defs
-  pub refused : IsRefusedBy natives defs (refusal_in file place code)
+  pub refusal : DefRefusal
+  pub refused : IsRefusedBy natives defs refusal
+  pub is : IsToldAs refusal file place code told
 
--- The texts are refused by this rule in this file, at this place: for a token, or for what the
--- files say.
-abbrev pub AreRefusedAt : Predicates → List Text → ℕ → ℕ → DefCode → Type 0
-AreRefusedAt natives texts file place code =
-    IsSyntaxRefusal texts file place code ⊎ IsRuleRefusal natives texts file place code
+-- The texts are refused by this rule in this file, at this place: for a token, of which no more is
+-- told, or for what the files say.
+abbrev pub AreRefusedAt : Predicates → List Text → ℕ → ℕ → DefCode → Text → Type 0
+AreRefusedAt natives texts file place code told =
+    (IsSyntaxRefusal texts file place code × (told ≡ []))
+    ⊎ IsRuleRefusal natives texts file place code told

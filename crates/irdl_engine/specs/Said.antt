@@ -24,7 +24,7 @@
 --                           r is the judgement of the texts
 --
 -- Inside: no public clause rests on this.
-use Rattle.std.specs.Prelude.{ℕ, ◌≡◌, ◌⊎◌, ◌<◌, ◌≤◌, ⊤, List, length, map, IsTrue, IfSome, slice_get}
+use Rattle.std.specs.Prelude.{ℕ, ◌≡◌, ◌⊎◌, ◌<◌, ◌≤◌, ⊤, List, [], length, map, IsTrue, IfSome, slice_get}
 use Rattle.std.specs.declared.alloc.Global.{Global}
 use Rattle.std.specs.declared.option.Option.{Option}
 use Rattle.std.specs.declared.option.Option.TheVariants.{Some, None}
@@ -57,7 +57,7 @@ bytes_of texts = map (λ text. text.items) texts
 abbrev pub said : List Text → Stop → Option Answer
 said names (Unreadable file) = Some (read_fault (text_at names file))
 said names (TooLong file) = Some (input_limit (text_at names file))
-said names (Refused r) = Some (refused (text_at names r.file) r.place r.code)
+said names (Refused r) = Some (refused (text_at names r.file) r.place r.code r.told.items)
 said names OutOfMemory = None
 
 -- all is well where nothing stopped the call
@@ -129,6 +129,7 @@ pub record IsRefusedToken (src : Text) (file : ℕ) (r : Refusal) : Type 0 where
   pub at : ℕ
   pub refused : IsTokenRefusal src at r.code
   pub stands : StandsAt src r at
+  pub nothing : r.told.items ≡ []
 
 -- the tree that a text spells, or its refusal, as that of the file with this number
 abbrev pub IsTreeOf : Text → ℕ → Result RawDefs Stop → Type 0
@@ -140,7 +141,7 @@ IsTreeOf src file (Err _) = ⊥
 -- the texts are refused as the refusal says
 pub record Shows (natives : Predicates) (texts : List Text) (r : Refusal) : Type 0 where
   pub at : ℕ
-  pub refused : AreRefusedAt natives texts r.file at r.code
+  pub refused : AreRefusedAt natives texts r.file at r.code r.told.items
   pub stands : StandsAt (text_at texts r.file) r at
 
 -- nothing stops the judgement exactly where the texts are definition files; else the refusal does,

@@ -2,6 +2,7 @@
 
 ghost use Rattle.std.specs.Prelude.{◌≡◌, ◌<◌, ◌≤◌, IfOk, IfErr, IfSome, MatchOption, length};
 ghost use Rattle.dialect_registry.specs.Codes.{IsRule};
+ghost use Rattle.dialect_registry.specs.Details as told;
 ghost use Rattle.irdl_bytes.specs.Outside.{Rose, FaultsByItself};
 ghost use Rattle.irdl_engine.specs.Answer.{MayAnswer};
 ghost use Rattle.irdl_engine.specs.Command as spec;
@@ -16,7 +17,7 @@ use crate::stop::{Refusal, Stop};
 use crate::texts::read_texts;
 use crate::trees::{read_trees, refusal_at};
 use attr_uniquer::Uniquer;
-use dialect_registry::{DefCode, DefRefusal, DefStop, load};
+use dialect_registry::{DefCode, DefRefusal, DefStop, detail, load};
 use irdl_bytes::Files;
 use irdl_ops::RawDefs;
 use native_predicate::Natives;
@@ -41,15 +42,24 @@ fn first_broken(
     }
 }
 
-/// A refusal by this rule, at this place of the text with this number.
-fn refusal_in(texts: &[Vec<u8>], file: usize, place: u32, code: DefCode) -> Refusal
+/// What was found by this rule in one of the texts, with its line, its column and its detail.
+fn refusal_in(
+    alloc: Global,
+    texts: &[Vec<u8>],
+    found: &DefRefusal,
+    code: DefCode,
+) -> Result<Refusal, AllocError>
     requires short { AreShort (bytes_of texts.now) }
-    requires there { file < length texts.now }
-    ensures stands { StandsAt (text_at (bytes_of texts.now) file) result place }
-    ensures in_file { result.file ≡ file }
-    ensures rule { result.code ≡ code }
+    requires there { found.now.file < length texts.now }
+    ensures stands { IfOk result (λ r.
+        StandsAt (text_at (bytes_of texts.now) found.now.file) r found.now.place) }
+    ensures in_file { IfOk result (λ r. r.file ≡ found.now.file) }
+    ensures rule { IfOk result (λ r. r.code ≡ code) }
+    ensures told { IfOk result (λ r. r.told.items ≡ told.detail code found.now) }
 {
-    refusal_at(file, &texts[file], place, code)
+    let file = found.file;
+    let told = detail(alloc, code, found)?;
+    Ok(refusal_at(file, &texts[file], found.place, code, told))
 }
 
 /// Judges the definition files that texts spell: the refusal for the first rule that they break.
@@ -70,7 +80,7 @@ fn judge_trees(
     let Some(code) = DefCode::of_number(found.code) else {
         unreachable!()
     };
-    Err(Stop::Refused(refusal_in(texts, found.file, found.place, code)))
+    Err(Stop::Refused(refusal_in(alloc, texts, &found, code)?))
 }
 
 /// Judges the texts of definition files: the syntax of each, and then the rules over all of them.

@@ -99,7 +99,8 @@ fn report_name<S: Sink>(err: &mut S, status: Status, title: &str, name: &str) ->
 
 /// Writes the line of a refusal in a file of this name.
 fn report_refusal<S: Sink>(err: &mut S, name: &str, refusal: &Refusal) -> Status
-    ensures says { let a = refused name.now refusal.now.place refusal.now.code in
+    ensures says { let a = refused name.now refusal.now.place refusal.now.code
+        refusal.now.told.items in
         Says a.status a.err result (change (S.written err.old) (S.written err.new)) }
     ensures fault { result ≡ Status.WriteFault → Rose (S.faults err.old) (S.faults err.new) }
     ensures later { S.faults err.old ≤ S.faults err.new }
@@ -112,7 +113,7 @@ fn report_refusal<S: Sink>(err: &mut S, name: &str, refusal: &Refusal) -> Status
         refusal.place,
         code,
         refusal.code.name(),
-        refusal.code.detail(),
+        &refusal.told,
     ) {
         Ok(()) => Status::DefinitionRefused,
         Err(_) => Status::WriteFault,

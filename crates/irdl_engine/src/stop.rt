@@ -4,16 +4,18 @@ use dialect_registry::DefCode;
 use ir_lexer::LineCol;
 use std::alloc::AllocError;
 
-/// A rule that is broken, and where: the number of the file, from 0, and the place in it.
-#[derive(Clone, Copy, Debug)]
+/// A rule that is broken, and where: the number of the file, from 0, and the place in it; and what
+/// else is told of it.
+#[derive(Debug, Drop)]
 pub struct Refusal {
     pub file: usize,
     pub place: LineCol,
     pub code: DefCode,
+    pub told: Vec<u8>,
 }
 
 /// Why the work on definition files stopped. A file is told by its number, from 0.
-#[derive(Clone, Copy, Debug)]
+#[derive(Debug, Drop)]
 pub enum Stop {
     /// The file couldn't be opened or read.
     Unreadable(usize),

@@ -24,17 +24,26 @@ fn rule_of(code: SyntaxCode) -> DefCode
     }
 }
 
-/// A refusal by this rule, at this place of the text of the file with this number.
-pub fn refusal_at(file: usize, text: &[u8], place: u32, code: DefCode) -> Refusal
+/// A refusal by this rule, at this place of the text of the file with this number, of which this is
+/// told.
+pub fn refusal_at(
+    file: usize,
+    text: &[u8],
+    place: u32,
+    code: DefCode,
+    told: Vec<u8>,
+) -> Refusal
     requires { length text.now ≤ FILE_LIMIT }
     ensures stands { StandsAt text.now result place }
     ensures in_file { result.file ≡ file }
     ensures rule { result.code ≡ code }
+    ensures told { result.told ≡ told }
 {
     Refusal {
         file,
         place: line_col(text, place),
         code,
+        told,
     }
 }
 
@@ -47,7 +56,8 @@ fn read_tree(alloc: Global, file: usize, text: &[u8]) -> Result<RawDefs, Stop>
     match read_definitions(alloc, &mut tokens) {
         Ok(defs) => Ok(defs),
         Err(SyntaxStop::At { place, code }) => {
-            Err(Stop::Refused(refusal_at(file, text, place, rule_of(code))))
+            let told = Vec::new(alloc);
+            Err(Stop::Refused(refusal_at(file, text, place, rule_of(code), told)))
         }
         Err(SyntaxStop::Failed) => unreachable!(),
         Err(SyntaxStop::OutOfMemory) => Err(Stop::OutOfMemory),

@@ -18,7 +18,7 @@ pub fn write_refusal<'a, S: Sink>(
     place: LineCol,
     code: &'a str,
     name: &'a str,
-    detail: &'a str,
+    detail: &'a [u8],
 ) -> Result<(), Failed>
     ensures ok { OnOk result (Appends (S.written sink.old) (S.written sink.new)
         (refusal_line file.now place code.now name.now detail.now)) }
@@ -41,7 +41,7 @@ pub fn write_refusal<'a, S: Sink>(
             code.as_bytes(),
             " ".as_bytes(),
             name.as_bytes(),
-            detail.as_bytes(),
+            detail,
             "\n".as_bytes(),
         ],
     )

@@ -48,7 +48,7 @@ fn a_refusal_has_its_line_or_a_front_of_it(rt: HostRuntime) -> Result<(), Fail> 
         };
         for room in 0..=want.len() {
             let mut sink = MemSink::new(rt.alloc(), room)?;
-            let answer = write_refusal(&mut sink, file, place, code, name, detail);
+            let answer = write_refusal(&mut sink, file, place, code, name, detail.as_bytes());
             assert_eq!(rt; answer.is_ok(), room == want.len(), "{want}");
             assert_eq!(rt; sink.bytes(), &want.as_bytes()[..room], "{want}");
         }

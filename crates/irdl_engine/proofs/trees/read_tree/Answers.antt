@@ -18,4 +18,5 @@ returns-in-Err-At c = record {
       (c.refusal_at.ensures.rule ∙ c.rule_of.ensures ∙ ap rule_of c.in-Err-At.code-is);
   stands = subst (StandsAt c.args.text.now c.refusal_at.result) c.in-Err-At.place-is
       c.refusal_at.ensures.stands;
+  nothing = ap (λ v. v.items) c.refusal_at.ensures.told ∙ c.new-told.ensures.items;
 }
