@@ -50,6 +50,26 @@ def many_names(file):
     file.write(b"irdl.operands(%s) } }\n" % entries)
 
 
+def formats(file):
+    """One dialect of 2,000 operations, each with a format of ten elements."""
+    file.write(b"irdl.dialect @a {\n")
+    form = b"$x `,` $y `with` int($n, i64) attr-dict `:` type($x) `->` functional-type($y, results)"
+    for number in range(2_000):
+        file.write(b"  irdl.operation @o%d { %%0 = irdl.any irdl.operands(x: %%0, y: %%0)\n" % number)
+        file.write(b"    irdl.results(r: %0) irdl.attributes { \"n\" = %0 }\n")
+        file.write(b"    irdl_opt.format \"%s\" }\n" % form)
+    file.write(b"}\n")
+
+
+def one_format(file):
+    """One operation with a format of 20,000 elements, of which 5,000 are groups of two."""
+    file.write(b"irdl.dialect @a { irdl.operation @o { %0 = irdl.any irdl_opt.terminator\n")
+    entries = b", ".join(b"\"a%d\" = optional %%0" % number for number in range(5_000))
+    file.write(b"irdl.attributes { %s }\n" % entries)
+    groups = b" ".join(b"(`w%d` int($a%d, i64)^)? `,`" % (number, number) for number in range(5_000))
+    file.write(b"irdl_opt.format \"%s attr-dict\" } }\n" % groups)
+
+
 def spaces(file):
     """Layout alone, which is a file without dialects."""
     for _ in range(SIZE // 4096):
@@ -70,7 +90,7 @@ def measure(program, path, status):
 
 
 # Each file with its status, in the order of their memory, since the peak is that of all runs so far.
-FILES = [(spaces, 0), (many_names, 1), (many_operations, 0), (operations, 0)]
+FILES = [(formats, 0), (one_format, 0), (spaces, 0), (many_names, 1), (many_operations, 0), (operations, 0)]
 
 
 def main():
