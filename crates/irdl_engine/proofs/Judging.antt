@@ -21,12 +21,16 @@ use Rattle.dialect_registry.proofs.Walks.{slice_get-item}
 use Rattle.irdl_engine.specs.declared.stop.Refusal.{Refusal}
 use Rattle.irdl_engine.specs.declared.stop.Stop.{Stop}
 use Rattle.irdl_engine.specs.declared.stop.Stop.TheVariants.{Unreadable, TooLong, Refused, OutOfMemory}
-use Rattle.irdl_engine.specs.Answer.{MayAnswer, TellsRefusal, refused, place_at}
+use Rattle.module_meaning.specs.WholeModules.{Loaded}
+use Rattle.irdl_engine.specs.Answer.{Answer, IsLoadedOf, MayAnswer, TellsRefusal, done, refused}
+use Rattle.irdl_engine.specs.Answer.{place_at}
 use Rattle.irdl_engine.specs.Command.{Check}
 use Rattle.irdl_engine.specs.InOrder.{IsReached, text_at}
-use Rattle.irdl_engine.specs.Judged.{Predicates, SpellsFile, SpellFiles, IsOfForm, IsRefusedBy, IsSyntaxRefusal}
+use Rattle.irdl_engine.specs.Modules.{IsLoadedFrom}
+use Rattle.irdl_engine.specs.Judged.{Predicates, AreDefinitions, SpellsFile, SpellFiles, IsOfForm, IsRefusedBy, IsSyntaxRefusal}
 use Rattle.irdl_engine.specs.Reading.{AreTextsOf}
-use Rattle.irdl_engine.specs.Said.{bytes_of, answer_of, IsWithin, StandsAt, IsTreeOf, Shows, IsVerdict}
+use Rattle.irdl_engine.specs.Said.{bytes_of, said, IsWithin, StandsAt, IsTreeOf, Shows, IsVerdict}
+use Rattle.irdl_engine.specs.Said.{MayStop, MayStopLoading}
 use Rattle.irdl_engine.specs.Words as words
 use Rattle.irdl_engine.proofs.Items.{reaches, zip-length}
 use Rattle.irdl_engine.proofs.Rules.{refused-within}
@@ -116,25 +120,23 @@ verdict-within natives texts (Refused r) h = elim h.refused [
       (refused-within natives x.defs x.refusal x.refused))
 ]
 
--- the same of any verdict, where there are as many texts as names
-pub verdicts-within : (natives : Predicates) (names : List (Bor Text)) (texts : List Text)
-    (r : Result (Unit {0}) Stop) → length texts ≡ length (words.texts names)
-    → IsVerdict natives texts r → IfErr r (IsWithin (length names))
-verdicts-within natives names texts (Ok ok) count h = tt
-verdicts-within natives names texts (Err stop) count h =
+-- a stop of the judgement tells one of the files, where there are as many texts as names
+pub stop-within : (natives : Predicates) (names : List (Bor Text)) (texts : List Text)
+    (stop : Stop) → length texts ≡ length (words.texts names)
+    → IsVerdict natives texts (Err stop) → IsWithin (length names) stop
+stop-within natives names texts stop count h =
     subst (λ n. IsWithin n stop) (count ∙ length-map names (λ (w : Bor Text). w.now))
     (verdict-within natives texts stop h)
 
 module _ (natives : Predicates) (m : FileMap) (failed : Type 0) (names texts : List Text)
     (has : AreTextsOf m names texts) where
-  -- the verdict on texts that were read is what is to be answered
-  verdict-answers : (r : Result (Unit {0}) Stop) → IsVerdict natives texts r
-      → IfSome (answer_of names r) (MayAnswer natives m failed (Some (Check names)))
-  verdict-answers (Ok ok) h = inl (inr (texts, has, inl (h, refl)))
-  verdict-answers (Err (Unreadable n)) h = absurd h
-  verdict-answers (Err (TooLong n)) h = absurd h
-  verdict-answers (Err OutOfMemory) h = tt
-  verdict-answers (Err (Refused r)) h =
+  -- what stops the judgement of texts that were read is what is to be answered
+  verdict-stops : (stop : Stop) → IsVerdict natives texts (Err stop)
+      → IfSome (said names stop) (MayStopLoading natives m failed names)
+  verdict-stops (Unreadable n) h = absurd h
+  verdict-stops (TooLong n) h = absurd h
+  verdict-stops OutOfMemory h = tt
+  verdict-stops (Refused r) h =
       let line = h.stands.line in
       let column = h.stands.column in
       let place : r.place ≡ place_at (text_at texts r.file) h.at =
@@ -149,14 +151,96 @@ module _ (natives : Predicates) (m : FileMap) (failed : Type 0) (names texts : L
         refused = h.refused;
         is = ap (λ at. refused (text_at names r.file) at r.code r.told.items) place;
       } in
-      inl (inr (texts, has, inr told))
+      inl (inr (texts, has, told))
 
 -- the same, where the files may tell their bytes
-pub judged-answers : (told : Option FileMap) (natives : Predicates) (failed : Type 0)
-    (names texts : List Text) (r : Result (Unit {0}) Stop)
-    → IfSome told (λ m. AreTextsOf m names texts) → IsVerdict natives texts r
-    → IfSome told (λ m. IfSome (answer_of names r)
-    (MayAnswer natives m failed (Some (Check names))))
-judged-answers None natives failed names texts r has h = tt
-judged-answers (Some m) natives failed names texts r has h =
-    verdict-answers natives m failed names texts has r h
+pub judged-stops : (told : Option FileMap) (natives : Predicates) (failed : Type 0)
+    (names texts : List Text) (stop : Stop)
+    → IfSome told (λ m. AreTextsOf m names texts) → IsVerdict natives texts (Err stop)
+    → IfSome told (λ m. IfSome (said names stop) (MayStopLoading natives m failed names))
+judged-stops None natives failed names texts stop has h = tt
+judged-stops (Some m) natives failed names texts stop has h =
+    verdict-stops natives m failed names texts has stop h
+
+-- the same of what the judgement gave
+pub judged-results : {A : Type 0} (told : Option FileMap) (natives : Predicates) (failed : Type 0)
+    (names texts : List Text) (r : Result A Stop)
+    → IfSome told (λ m. AreTextsOf m names texts)
+    → IfErr r (λ stop. IsVerdict natives texts (Err stop))
+    → IfErr r (λ stop. IfSome told (λ m. IfSome (said names stop)
+    (MayStopLoading natives m failed names)))
+judged-results told natives failed names texts (Ok a) has h = tt
+judged-results told natives failed names texts (Err stop) has h =
+    judged-stops told natives failed names texts stop has h
+
+pub results-within : {A : Type 0} (natives : Predicates) (names : List (Bor Text))
+    (texts : List Text) (r : Result A Stop) → length texts ≡ length (words.texts names)
+    → IfErr r (λ stop. IsVerdict natives texts (Err stop)) → IfErr r (IsWithin (length names))
+results-within natives names texts (Ok a) count h = tt
+results-within natives names texts (Err stop) count h =
+    stop-within natives names texts stop count h
+
+-- what texts that were read define, their files define
+pub loaded-files : (told : Option FileMap) (natives : Predicates) (names texts : List Text)
+    (loaded : Loaded) → IfSome told (λ m. AreTextsOf m names texts)
+    → IsLoadedFrom natives texts loaded
+    → IfSome told (λ m. IsLoadedOf natives m names loaded)
+loaded-files None natives names texts loaded has l = tt
+loaded-files (Some m) natives names texts loaded has l =
+    record { texts = texts; has = has; loaded_from = l }
+
+-- a file that can't be read stops the loading
+pub unread-stops : (told : Option FileMap) (natives : Predicates) (failed : Type 0)
+    (names : List Text) (stop : Stop)
+    → IfSome told (λ m. IfSome (said names stop) (MayStop m failed names))
+    → IfSome told (λ m. IfSome (said names stop) (MayStopLoading natives m failed names))
+unread-stops None natives failed names stop h = tt
+unread-stops (Some m) natives failed names stop h = each (said names stop) h
+  where
+    each : (a : Option Answer) → IfSome a (MayStop m failed names)
+        → IfSome a (MayStopLoading natives m failed names)
+    each None h = tt
+    each (Some a) (inl x) = inl (inl x)
+    each (Some a) (inr x) = inr x
+
+-- ---- what is answered for definition files
+
+-- texts that define something keep all rules
+pub loaded-accepted : (natives : Predicates) (texts : List Text) (loaded : Loaded)
+    → IsLoadedFrom natives texts loaded → AreDefinitions natives texts
+loaded-accepted natives texts loaded l = record {
+  defs = l.defs;
+  spelled = l.spelled;
+  accepted = record {
+    values = loaded.values;
+    types = loaded.types;
+    ops = loaded.ops;
+    loaded = l.are;
+  };
+}
+
+-- files that define something are accepted
+pub loaded-answers : (told : Option FileMap) (natives : Predicates) (failed : Type 0)
+    (names : List Text) (loaded : Loaded)
+    → IfSome told (λ m. IsLoadedOf natives m names loaded)
+    → IfSome told (λ m. MayAnswer natives m failed (Some (Check names)) done)
+loaded-answers None natives failed names loaded l = tt
+loaded-answers (Some m) natives failed names loaded l =
+    inl (inr (l.texts, l.has, inl (loaded-accepted natives l.texts loaded l.loaded_from, refl)))
+
+-- what stops the loading is answered to `check`
+check-stops : (natives : Predicates) (m : FileMap) (failed : Type 0) (names : List Text)
+    (a : Option Answer) → IfSome a (MayStopLoading natives m failed names)
+    → IfSome a (MayAnswer natives m failed (Some (Check names)))
+check-stops natives m failed names None h = tt
+check-stops natives m failed names (Some a) (inl (inl x)) = inl (inl x)
+check-stops natives m failed names (Some a) (inl (inr x)) = inl (inr (x.0, x.1, inr x.2))
+check-stops natives m failed names (Some a) (inr x) = inr x
+
+pub check-answers : (told : Option FileMap) (natives : Predicates) (failed : Type 0)
+    (names : List Text) (stop : Stop)
+    → IfSome told (λ m. IfSome (said names stop) (MayStopLoading natives m failed names))
+    → IfSome told (λ m. IfSome (said names stop) (MayAnswer natives m failed (Some (Check names))))
+check-answers None natives failed names stop h = tt
+check-answers (Some m) natives failed names stop h =
+    check-stops natives m failed names (said names stop) h

@@ -5,4 +5,12 @@ pub mod Lines
 pub mod Reading
 pub mod Rules
 pub mod Spelled
+pub mod OneAnswer
 pub mod Whole
+pub mod SpelledModules
+pub mod Wrote
+pub mod Denoted
+pub mod ModuleFiles
+pub mod Storing
+pub mod Accepting
+pub mod Canonical

@@ -1,5 +1,5 @@
 -- Each line that is said has bytes.
-use Rattle.std.proofs.Common.{◌≡◌, [], ◌∷◌, List, ap, ◌∙◌}
+use Rattle.std.proofs.Common.{◌≡◌, ℕ, [], ◌∷◌, List, ap, ◌∙◌}
 use Rattle.std.specs.declared.option.Option.TheVariants.{Some}
 use Rattle.std.proofs.lemmas.Option.{same_Some}
 use Rattle.ir_lexer.specs.Spelling.{Text}
@@ -7,9 +7,11 @@ use Rattle.ir_lexer.specs.declared.place.LineCol.{LineCol}
 use Rattle.dialect_registry.specs.declared.code.DefCode.{DefCode}
 use Rattle.irdl_engine.specs.declared.stop.Stop.{Stop}
 use Rattle.irdl_engine.specs.declared.stop.Stop.TheVariants.{Unreadable, TooLong, Refused, OutOfMemory}
-use Rattle.irdl_engine.specs.Answer.{Answer, usage, refused}
+use Rattle.irdl_engine.specs.declared.stop.ModuleStop.{ModuleStop}
+use Rattle.irdl_engine.specs.declared.stop.ModuleStop.TheVariants.{Definitions, Module, Fault}
+use Rattle.irdl_engine.specs.Answer.{Answer, usage, refused, module_refused, output_limit_line}
 use Rattle.irdl_engine.specs.InOrder.{text_at}
-use Rattle.irdl_engine.specs.Said.{said}
+use Rattle.irdl_engine.specs.Said.{said, said_of_module}
 
 -- the line of a refusal has bytes
 refused-line : (name : Text) (place : LineCol) (code : DefCode) (told : Text)
@@ -26,6 +28,25 @@ said-line names (Refused r) a s e =
     let same = same_Some (refused (text_at names r.file) r.place r.code r.told.items) a s in
     refused-line (text_at names r.file) r.place r.code r.told.items (ap (λ x. x.err) same ∙ e)
 said-line names OutOfMemory a s e = absurd (cc)
+
+-- the line of a refused module has bytes
+module-line : (name : Text) (place : LineCol) (code : ℕ)
+    → (module_refused name place code).err ≡ [] → ⊥
+module-line [] place code e = absurd (cc)
+module-line (b ∷ name) place code e = absurd (cc)
+
+-- the line of a stop over a module file and definition files has bytes
+pub said-module-line : (name : Text) (names : List Text) (stop : ModuleStop) (a : Answer)
+    → said_of_module name names stop ≡ Some a → a.err ≡ [] → ⊥
+said-module-line name names (Definitions stop) a s e = said-line names stop a s e
+said-module-line name names (Module stop) a s e = said-line (name ∷ []) stop a s e
+said-module-line name names (Fault r) a s e =
+    let same = same_Some (module_refused name r.place r.code) a s in
+    module-line name r.place r.code (ap (λ x. x.err) same ∙ e)
+
+-- the line for a text that is too long has bytes
+pub limit-has : output_limit_line ≡ [] → ⊥
+limit-has e = absurd (cc)
 
 -- the usage line has bytes
 pub usage-has : usage.err ≡ [] → ⊥

@@ -39,8 +39,7 @@ pub one-refusal : (natives : Predicates) (defs : List RawDefs) (r s : DefRefusal
 one-refusal natives defs r s m n p q c e a b x y t u =
     let same = refused-once natives defs r s x y in
     let rule = code_number-same c e
-    (sym t.rule ∙ ap (λ (z : DefRefusal). z.code) same ∙ u.rule) in
-    (
+    (sym t.rule ∙ ap (λ (z : DefRefusal). z.code) same ∙ u.rule) in (
       sym t.in_file ∙ ap (λ (z : DefRefusal). z.file) same ∙ u.in_file,
       sym t.at ∙ ap (λ (z : DefRefusal). z.place) same ∙ u.at,
       rule,

@@ -1,163 +1,27 @@
--- What follows from the answer that is given.
---
--- The words, the predicates and the bytes told leave one answer. The first file that can't be read
--- is one, and where all can be read, each has one text. A text has one list of tokens, which is
--- that of one definition file or is refused at one place; and what files break first is one rule at
--- one place. So where accepted files have the answer that all is well, no other can be given but by
--- a fault or for want of memory.
-use Rattle.std.proofs.Common.{◌≡◌, ◌⊎◌, ◌≤◌, inl, inr, ℕ, List, length, Bool, true, false}
-use Rattle.std.proofs.Common.{refl, sym, ◌∙◌, ap, subst, arith}
-use Rattle.std.specs.Prelude.{IfSome, IsTrue}
+-- What follows from the answer that is given: where accepted files have the answer that all is
+-- well, no other can be given but by a fault or for want of memory.
+use Rattle.std.proofs.Common.{◌≡◌, ◌⊎◌, inl, inr, ℕ, List, [], length, Bool, true, false}
+use Rattle.std.proofs.Common.{refl, sym, ◌∙◌, ap, subst}
+use Rattle.std.specs.Prelude.{IfSome, IsTrue, nat_le}
 use Rattle.std.specs.declared.option.Option.{Option}
 use Rattle.std.specs.declared.option.Option.TheVariants.{Some, None}
-use Rattle.std.proofs.lemmas.Option.{same_Some}
+use Rattle.derived_printer.specs.declared.form.Form.{Form}
+use Rattle.dialect_defs.specs.declared.definition.OpDef.{OpDef}
 use Rattle.irdl_bytes.specs.Outside.{FileMap, FaultsByItself, Rose}
-use Rattle.irdl_bytes.specs.declared.whole.TheConstants.{FILE_LIMIT}
+use Rattle.ir_lexer.specs.declared.lexer.TheConstants.{TEXT_LIMIT}
 use Rattle.ir_lexer.specs.Spelling.{Text}
-use Rattle.irdl_ops.specs.declared.raw.RawDefs.{RawDefs}
-use Rattle.dialect_registry.specs.declared.code.DefCode.{DefCode}
+use Rattle.module_meaning.specs.WholeModules.{WholeModule}
 use Rattle.irdl_engine.specs.declared.status.Status.{Status}
-use Rattle.irdl_engine.specs.declared.status.Status.TheVariants.{Done, OutOfMemory}
-use Rattle.irdl_engine.specs.Answer.{Answer, Accepted, TellsUnread, TellsFirstUnread, Judged, Checked, Obeys, MayAnswer}
-use Rattle.irdl_engine.specs.Answer.{done, refused_in}
-use Rattle.irdl_engine.specs.Command.{Command, Check}
-use Rattle.irdl_engine.specs.Judged.{Predicates, AreDefinitions, AreRefusedAt, IsOfForm, SpellsFile, SpellFiles, IsSyntaxRefusal, IsTokenRefusal, IsRefusedBy}
-use Rattle.irdl_engine.specs.Reading.{IsTextOf, AreTextsOf, IsRead}
-use Rattle.irdl_engine.specs.Writes.{Change, GivesAll, GivesFronts, GivesPlanned, MayGive}
-use Rattle.irdl_engine.proofs.Items.{reached-once, zip-there, zip-once}
-use Rattle.irdl_engine.proofs.Rules.{not-accepted-and-refused, one-refusal}
-use Rattle.irdl_engine.proofs.Spelled.{spelled-or-refused, all-spelled-once, token-once}
-
--- ---- one answer of reading
-
--- a file of a name has one text
-text-once : (m : FileMap) (name a b : Text) → IsTextOf m name a → IsTextOf m name b → a ≡ b
-text-once m name a b x y = same_Some a b (sym x.has ∙ y.has)
-
--- a file that can't be read isn't read
-unread-or-read : (m : FileMap) (name : Text) (found : Option Text) (a : Answer) → m name ≡ found
-    → TellsUnread name found a → IsRead m name → ⊥
-unread-or-read m name None a e unread (text, is) = let has = is.has in absurd (cc)
-unread-or-read m name (Some long) a e unread (text, is) =
-    let same : long ≡ text = same_Some long text (sym e ∙ is.has) in
-    let within = subst (λ (t : Text). length t ≤ FILE_LIMIT) (sym same) is.within in
-    let past = unread.0 in
-    omega arith
-
--- a file that can't be read has one answer
-unread-once : (name : Text) (found : Option Text) (a b : Answer)
-    → TellsUnread name found a → TellsUnread name found b → a ≡ b
-unread-once name None a b x y = x ∙ sym y
-unread-once name (Some long) a b x y = x.1 ∙ sym y.1
-
--- the first file that can't be read has one answer
-first-unread-once : (m : FileMap) (names : List Text) (a b : Answer)
-    → TellsFirstUnread m names a → TellsFirstUnread m names b → a ≡ b
-first-unread-once m names a b x y =
-    let same = reached-once (IsRead m) names x.number y.number x.name y.name x.reached y.reached
-    (unread-or-read m x.name (m x.name) a refl x.unread)
-    (unread-or-read m y.name (m y.name) b refl y.unread) in
-    unread-once y.name (m y.name) a b
-    (subst (λ (n : Text). TellsUnread n (m n) a) same.1 x.unread) y.unread
-
--- where all files are read, none can't be
-unread-or-all : (m : FileMap) (names texts : List Text) (a : Answer)
-    → TellsFirstUnread m names a → AreTextsOf m names texts → ⊥
-unread-or-all m names texts a x all =
-    unread-or-read m x.name (m x.name) a refl x.unread
-    (zip-there (IsTextOf m) names texts all x.number x.name x.reached.there)
-
--- ---- one answer of judging
-
--- texts that spell files aren't refused for a token
-spelled-or-syntax : (texts : List Text) (defs : List RawDefs) (file place : ℕ) (code : DefCode)
-    → SpellFiles texts defs → IsSyntaxRefusal texts file place code → ⊥
-spelled-or-syntax texts defs file place code spelled x =
-    spelled-or-refused x.text place code x.refused
-    (zip-there SpellsFile texts defs spelled file x.text x.reached.there)
-
--- definition files aren't refused
-accepted-or-refused : (natives : Predicates) (texts : List Text) (file place : ℕ) (code : DefCode)
-    (told : Text) → AreDefinitions natives texts → AreRefusedAt natives texts file place code told
-    → ⊥
-accepted-or-refused natives texts file place code told d (inl x) =
-    spelled-or-syntax texts d.defs file place code d.spelled x.0
-accepted-or-refused natives texts file place code told d (inr x) =
-    let same : x.defs ≡ d.defs = all-spelled-once texts x.defs d.defs x.spelled d.spelled in
-    not-accepted-and-refused natives d.defs x.refusal d.accepted
-    (subst (λ l. IsRefusedBy natives l x.refusal) same x.refused)
-
--- two refusals for tokens are in one file, at one place, by one rule
-one-syntax : (texts : List Text) (m n p q : ℕ) (c e : DefCode)
-    → IsSyntaxRefusal texts m p c → IsSyntaxRefusal texts n q e → (m ≡ n) × (p ≡ q) × (c ≡ e)
-one-syntax texts m n p q c e x y =
-    let same = reached-once IsOfForm texts m n x.text y.text x.reached y.reached
-    (spelled-or-refused x.text p c x.refused) (spelled-or-refused y.text q e y.refused) in
-    let one = token-once y.text p q c e
-    (subst (λ (t : Text). IsTokenRefusal t p c) same.1 x.refused) y.refused in
-    (same.0, one.0, one.1)
-
-one-place : (natives : Predicates) (texts : List Text) (m n p q : ℕ) (c e : DefCode) (a b : Text)
-    → AreRefusedAt natives texts m p c a → AreRefusedAt natives texts n q e b
-    → (m ≡ n) × (p ≡ q) × (c ≡ e) × (a ≡ b)
-one-place natives texts m n p q c e a b (inl x) (inl y) =
-    let one = one-syntax texts m n p q c e x.0 y.0 in (one.0, one.1, one.2, x.1 ∙ sym y.1)
-one-place natives texts m n p q c e a b (inl x) (inr y) =
-    absurd (spelled-or-syntax texts y.defs m p c y.spelled x.0)
-one-place natives texts m n p q c e a b (inr x) (inl y) =
-    absurd (spelled-or-syntax texts x.defs n q e x.spelled y.0)
-one-place natives texts m n p q c e a b (inr x) (inr y) =
-    let same : x.defs ≡ y.defs = all-spelled-once texts x.defs y.defs x.spelled y.spelled in
-    one-refusal natives y.defs x.refusal y.refusal m n p q c e a b
-    (subst (λ l. IsRefusedBy natives l x.refusal) same x.refused) y.refused x.is y.is
-
--- the same file, place, rule and detail give the same answer
-same-refused : (names texts : List Text) (m n p q : ℕ) (c e : DefCode) (a b : Text)
-    → (m ≡ n) × (p ≡ q) × (c ≡ e) × (a ≡ b)
-    → refused_in names texts m p c a ≡ refused_in names texts n q e b
-same-refused names texts m n p q c e a b u =
-    ap (λ x. refused_in names texts x p c a) u.0
-    ∙ ap (λ x. refused_in names texts n x c a) u.1
-    ∙ ap (λ x. refused_in names texts n q x a) u.2
-    ∙ ap (λ x. refused_in names texts n q e x) u.3
-
-judged-once : (natives : Predicates) (names texts : List Text) (a b : Answer)
-    → Judged natives names texts a → Judged natives names texts b → a ≡ b
-judged-once natives names texts a b (inl x) (inl y) = x.1 ∙ sym y.1
-judged-once natives names texts a b (inl x) (inr y) =
-    absurd (accepted-or-refused natives texts y.file y.place y.code y.told x.0 y.refused)
-judged-once natives names texts a b (inr x) (inl y) =
-    absurd (accepted-or-refused natives texts x.file x.place x.code x.told y.0 x.refused)
-judged-once natives names texts a b (inr x) (inr y) =
-    x.is
-    ∙ same-refused names texts x.file y.file x.place y.place x.code y.code x.told y.told
-    (one-place natives texts x.file y.file x.place y.place x.code y.code x.told y.told x.refused
-    y.refused)
-    ∙ sym y.is
-
--- ---- one answer
-
-checked-once : (natives : Predicates) (m : FileMap) (names : List Text) (a b : Answer)
-    → Checked natives m names a → Checked natives m names b → a ≡ b
-checked-once natives m names a b (inl x) (inl y) = first-unread-once m names a b x y
-checked-once natives m names a b (inl x) (inr y) = absurd (unread-or-all m names y.0 a x y.1)
-checked-once natives m names a b (inr x) (inl y) = absurd (unread-or-all m names x.0 b y x.1)
-checked-once natives m names a b (inr x) (inr y) =
-    let same : x.0 ≡ y.0 = zip-once (IsTextOf m) (text-once m) names x.0 y.0 x.1 y.1 in
-    judged-once natives names y.0 a b
-    (subst (λ (l : List Text). Judged natives names l a) same x.2) y.2
-
-obeys-once : (natives : Predicates) (m : FileMap) (command : Option Command) (a b : Answer)
-    → Obeys natives m command a → Obeys natives m command b → a ≡ b
-obeys-once natives m None a b x y = x ∙ sym y
-obeys-once natives m (Some (Check names)) a b x y = checked-once natives m names a b x y
-
--- the words, the predicates and the bytes told leave one answer
-pub one-answer : (told : Option FileMap) (natives : Predicates) (command : Option Command)
-    → IfSome told (λ m. (a b : Answer) → Obeys natives m command a → Obeys natives m command b
-    → a ≡ b)
-one-answer None natives command = tt
-one-answer (Some m) natives command = λ a b x y. obeys-once natives m command a b x y
+use Rattle.irdl_engine.specs.declared.status.Status.TheVariants.{Done, OutOfMemory, WriteFault}
+use Rattle.irdl_engine.specs.declared.status.Status.TheVariants.{OutputLimit}
+use Rattle.irdl_engine.specs.Answer.{Answer, Accepted, AcceptedModule, IsDenoted}
+use Rattle.irdl_engine.specs.Answer.{Obeys, MayAnswer, answered, done}
+use Rattle.irdl_engine.specs.Answer.{module_command, printed}
+use Rattle.irdl_engine.specs.Command.{Command, printed_by}
+use Rattle.irdl_engine.specs.Modules.{canonical_text}
+use Rattle.irdl_engine.specs.Judged.{Predicates}
+use Rattle.irdl_engine.specs.Writes.{Change, GivesAll, GivesFronts, GivesOut, GivesPlanned, MayGive}
+use Rattle.irdl_engine.proofs.OneAnswer.{obeys-once, one-answer}
 
 -- ---- completeness
 
@@ -169,51 +33,157 @@ Ends status = (status ≡ Done) ⊎ (status ≡ OutOfMemory)
 abbrev Calm : Bool → ℕ → ℕ → Type 0
 Calm steady before now = IsTrue steady ⊎ (Rose before now → ⊥)
 
-accepted-obeys : (natives : Predicates) (m : FileMap) (command : Option Command)
-    → Accepted natives m command → Obeys natives m command done
-accepted-obeys natives m command a =
-    subst (λ c. Obeys natives m c done) (sym a.spells)
-    (inr (a.texts, a.has, inl (a.accepted, refl)))
+-- no stream's fault matters, or none was counted
+abbrev NoFault : Option Form → ℕ → ℕ → ℕ → ℕ → Type 0
+NoFault form out-before out-after err-before err-after = (form ≡ None)
+    ⊎ ((Rose out-before out-after → ⊥) × (Rose err-before err-after → ⊥))
 
--- where all is well there is nothing to write
-given-done : (a : Answer) (status : Status) (out err : Change)
-    → a ≡ done → GivesAll a status out err ⊎ GivesFronts a status out err → Ends status
-given-done a status out err e (inl h) = inl (rw (h.status_is, e) refl)
-given-done a status out err e (inr h) = elim h.has_bytes [
-  | inl some ↦ absurd (some (ap (λ x. x.out) e))
-  | inr some ↦ absurd (some (ap (λ x. x.err) e))
-]
+-- ---- the answer for accepted files
+
+-- an answer whose status is that all is well has nothing for standard error
+module-done : (form : Option Form) (ops : List OpDef) (w : WholeModule)
+    → (answered form ops w).status ≡ Done → (answered form ops w).err ≡ []
+module-done None ops w e = refl
+module-done (Some form) ops w e =
+    printed-done (canonical_text form ops w)
+    (nat_le (length (canonical_text form ops w)) TEXT_LIMIT) refl e
+  where
+    printed-done : (text : Text) (within : Bool) → nat_le (length text) TEXT_LIMIT ≡ within
+        → (printed text).status ≡ Done → (printed text).err ≡ []
+    printed-done text true is e = rw is refl
+    printed-done text false is e =
+        let wrong : OutputLimit ≡ Done = rw is at e in absurd (cc)
+
+-- what accepted files are answered: the status is that all is well, and nothing is for standard
+-- error; nothing is for standard output but where a module is printed
+record GoodAnswer (natives : Predicates) (m : FileMap) (command : Option Command) (a : Answer)
+    : Type 0 where
+  obeys : Obeys natives m command a
+  status : a.status ≡ Done
+  err : a.err ≡ []
+  out : printed_by command ≡ None → a.out ≡ []
+
+-- what a denoted module is answered
+pub denoted-obeys : (natives : Predicates) (m : FileMap) (command : Option Command)
+    (x : IsDenoted natives m command)
+    → Obeys natives m command (answered x.form x.loaded.ops x.denoted)
+denoted-obeys natives m command x =
+    subst (λ c. Obeys natives m c (answered x.form x.loaded.ops x.denoted)) (sym x.spells)
+    (at-form x.form)
+  where
+    at-form : (form : Option Form) → Obeys natives m
+        (Some (module_command form x.name x.names)) (answered form x.loaded.ops x.denoted)
+    at-form None = inr (
+      x.loaded,
+      x.defined,
+      inr (record {
+        text = x.text;
+        has = x.has;
+        told = inr (record { denoted = x.denoted; denotes = x.denotes; is = refl });
+      }),
+    )
+    at-form (Some form) = inr (
+      x.loaded,
+      x.defined,
+      inr (record {
+        text = x.text;
+        has = x.has;
+        told = inr (record { denoted = x.denoted; denotes = x.denotes; is = refl });
+      }),
+    )
+
+accepted-module : (natives : Predicates) (m : FileMap) (command : Option Command)
+    → AcceptedModule natives m command → (a : Answer) × GoodAnswer natives m command a
+accepted-module natives m command y =
+    let x = y.module_is in (
+      answered x.form x.loaded.ops x.denoted,
+      record {
+        obeys = denoted-obeys natives m command x;
+        status = y.within;
+        err = module-done x.form x.loaded.ops x.denoted y.within;
+        out = λ e. no-out x.form (ap printed_by (sym x.spells) ∙ e);
+      },
+    )
+  where
+    no-out : (form : Option Form)
+        → printed_by (Some (module_command form y.module_is.name y.module_is.names)) ≡ None
+        → (answered form y.module_is.loaded.ops y.module_is.denoted).out ≡ []
+    no-out None e = refl
+    no-out (Some form) e = absurd (cc)
+
+accepted-good : (natives : Predicates) (m : FileMap) (command : Option Command)
+    → Accepted natives m command → (a : Answer) × GoodAnswer natives m command a
+accepted-good natives m command (inl x) = (
+  done,
+  record {
+    obeys = subst (λ c. Obeys natives m c done) (sym x.spells)
+        (inr (x.texts, x.has, inl (x.accepted, refl)));
+    status = refl;
+    err = refl;
+    out = λ e. refl;
+  },
+)
+accepted-good natives m command (inr x) = accepted-module natives m command x
+
+-- where a good answer is given no write fails
+given-good : (natives : Predicates) (m : FileMap) (command : Option Command) (a good : Answer)
+    (status : Status) (out err : Change) (ob oa eb ea : ℕ) → a ≡ good
+    → GoodAnswer natives m command good
+    → GivesAll a status out err ⊎ (GivesFronts a status out err ⊎ GivesOut a status out err)
+    → (status ≡ WriteFault → Rose ob oa ⊎ Rose eb ea)
+    → NoFault (printed_by command) ob oa eb ea → Ends status
+given-good natives m command a good status out err ob oa eb ea e g (inl h) cause calm =
+    inl (h.status_is ∙ ap (λ x. x.status) e ∙ g.status)
+given-good natives m command a good status out err ob oa eb ea e g (inr (inr h)) cause calm =
+    inr h.status_is
+given-good natives m command a good status out err ob oa eb ea e g (inr (inl h)) cause (inl none) =
+    elim h.has_bytes [
+      | inl some ↦ absurd (some (ap (λ x. x.out) e ∙ g.out none))
+      | inr some ↦ absurd (some (ap (λ x. x.err) e ∙ g.err))
+    ]
+given-good natives m command a good status out err ob oa eb ea e g (inr (inl h)) cause (inr calm) =
+    elim (cause h.status_is) [
+      | inl rose ↦ absurd (calm.0 rose)
+      | inr rose ↦ absurd (calm.1 rose)
+    ]
 
 true-or-false : (b : Bool) → IsTrue b → b ≡ false → ⊥
 true-or-false true t e = absurd (cc)
 true-or-false false t e = absurd (cc)
 
 module _ (natives : Predicates) (m : FileMap) (steady : Bool) (before now : ℕ)
-    (command : Option Command) (status : Status) (out err : Change) where
+    (command : Option Command) (status : Status) (out err : Change) (ob oa eb ea : ℕ)
+    (cause : status ≡ WriteFault → Rose ob oa ⊎ Rose eb ea) where
   completes-at : (g : GivesPlanned natives m (FaultsByItself steady before now) command status
       out err)
       → MayAnswer natives m (FaultsByItself steady before now) command g.answer
-      → Accepted natives m command → Calm steady before now → Ends status
-  completes-at g (inl e) a calm =
-      let is_done = obeys-once natives m command g.answer done e
-      (accepted-obeys natives m command a) in
-      given-done g.answer status out err is_done g.given
-  completes-at g (inr f) a (inl s) = absurd (true-or-false steady s f.0.0)
-  completes-at g (inr f) a (inr c) = absurd (c f.0.1)
+      → Accepted natives m command → Calm steady before now
+      → NoFault (printed_by command) ob oa eb ea → Ends status
+  completes-at g (inl e) a calm quiet =
+      let good = accepted-good natives m command a in
+      let same = obeys-once natives m command g.answer good.0 e good.1.obeys in
+      given-good natives m command g.answer good.0 status out err ob oa eb ea same good.1 g.given
+      cause quiet
+  completes-at g (inr f) a (inl s) quiet = absurd (true-or-false steady s f.0.0)
+  completes-at g (inr f) a (inr c) quiet = absurd (c f.0.1)
 
   may-complete : MayGive natives m (FaultsByItself steady before now) command status out err
-      → Accepted natives m command → Calm steady before now → Ends status
-  may-complete (inl g) a calm = completes-at g g.planned a calm
-  may-complete (inr u) a calm = inr u.status_is
+      → Accepted natives m command → Calm steady before now
+      → NoFault (printed_by command) ob oa eb ea → Ends status
+  may-complete (inl g) a calm quiet = completes-at g g.planned a calm quiet
+  may-complete (inr u) a calm quiet = inr u.status_is
 
--- faults of files and want of memory aside, accepted files are accepted
+-- faults and want of memory aside, accepted files are accepted
 pub completes : (told : Option FileMap) (natives : Predicates) (steady : Bool) (before now : ℕ)
-    (command : Option Command) (status : Status) (out err : Change)
+    (command : Option Command) (status : Status) (out err : Change) (ob oa eb ea : ℕ)
+    → (status ≡ WriteFault → Rose ob oa ⊎ Rose eb ea)
     → IfSome told (λ m. MayGive natives m (FaultsByItself steady before now) command status out err)
     → IfSome told (λ m. Accepted natives m command → IsTrue steady ⊎ (Rose before now → ⊥)
+    → (printed_by command ≡ None) ⊎ ((Rose ob oa → ⊥) × (Rose eb ea → ⊥))
     → (status ≡ Done) ⊎ (status ≡ OutOfMemory))
-completes None natives steady before now command status out err h = tt
-completes (Some m) natives steady before now command status out err h =
-    λ a calm. may-complete natives m steady before now command status out err h a calm
+completes None natives steady before now command status out err ob oa eb ea cause h = tt
+completes (Some m) natives steady before now command status out err ob oa eb ea cause h =
+    λ a calm quiet. may-complete natives m steady before now command status out err ob oa eb ea
+    cause h a calm quiet
 
 pub ruleset whole = (completes, one-answer)

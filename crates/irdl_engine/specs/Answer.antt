@@ -24,6 +24,25 @@
 --                            the texts of files of these names are to be answered by a
 --   Checked natives files names a
 --                            the files of these names are to be answered by a
+--   module_refused name place code
+--                            the answer for a refused module
+--   printed text             the answer with a text on standard output, up to the limit
+--   answered form ops m      the answer where all is well with a module: nothing, or its text
+--   Stopped natives files names a
+--                            the definition files of these names are answered by a, and no module
+--                            is read
+--   IsLoadedOf natives files names loaded
+--                            the files of these names are there, and define this
+--   TellsModuleFault loaded name text a
+--                            the text of a module is refused, and a is that answer
+--   TellsModule loaded form text a
+--                            it denotes a module, and a is the answer for it
+--   ReadsModule loaded files name form a
+--                            the module file of this name is read and to be answered by a
+--   ModuleChecked natives files names name form a
+--                            definition files and a module file are to be answered by a
+--   module_command form name defs
+--                            the command that asks for this
 --   Obeys natives files command a
 --                            the command over these files is to be answered by a
 --   NamedBy command name     the command names this file
@@ -31,14 +50,24 @@
 --   MayAnswer natives files failed command a
 --                            what is to be answered, or, where reading failed by itself, a read
 --                            fault of a file that the command names
+--   module_of command        the name of the module file that the command judges, if it does
+--   IsDenoted natives files command
+--                            the command names definition files and a module file that are there,
+--                            within the limit, and what the module file denotes by the others
 --   Accepted natives files command
---                            the command names files that are there, within the limit, and accepted
-use Rattle.std.specs.Prelude.{ℕ, ◌<◌, ◌≡◌, ◌⊎◌, List, [], ◌∷◌, ◌++◌, length}
-use Rattle.std.specs.Prelude.{codes, decimal, Contains}
+--                            the command names files that are there, within the limit, and
+--                            accepted: definition files, or these and a module
+use Rattle.std.specs.Prelude.{ℕ, ◌<◌, ◌≡◌, ◌⊎◌, List, [], ◌∷◌, ◌++◌, length, take}
+use Rattle.std.specs.Prelude.{codes, decimal, Contains, if◌then◌else◌, nat_le}
 use Rattle.std.specs.List.{concat}
 use Rattle.std.specs.declared.option.Option.{Option}
 use Rattle.std.specs.declared.option.Option.TheVariants.{Some, None}
+use Rattle.derived_printer.specs.declared.form.Form.{Form}
+use Rattle.dialect_defs.specs.declared.definition.OpDef.{OpDef}
+use Rattle.first_fault.specs.declared.fault.Fault.{Fault}
 use Rattle.irdl_bytes.specs.Outside.{FileMap}
+use Rattle.ir_lexer.specs.declared.lexer.TheConstants.{TEXT_LIMIT}
+use Rattle.module_meaning.specs.WholeModules.{Loaded, WholeModule}
 use Rattle.irdl_bytes.specs.declared.whole.TheConstants.{FILE_LIMIT}
 use Rattle.ir_lexer.specs.Place.{line_at, column_at}
 use Rattle.ir_lexer.specs.declared.place.LineCol.{LineCol}
@@ -48,11 +77,14 @@ use Rattle.dialect_registry.specs.declared.code.DefCode.{DefCode}
 use Rattle.irdl_engine.specs.declared.status.Status.{Status}
 use Rattle.irdl_engine.specs.declared.status.Status.TheVariants.{Done, DefinitionRefused, Usage}
 use Rattle.irdl_engine.specs.declared.status.Status.TheVariants.{ReadFault, InputLimit}
+use Rattle.irdl_engine.specs.declared.status.Status.TheVariants.{ModuleRefused, OutputLimit}
 use Rattle.dialect_registry.specs.Codes.{code_number, code_name}
-use Rattle.irdl_engine.specs.Command.{Command, Check, files_of}
+use Rattle.irdl_engine.specs.Command.{Command, Check, Verify, Print, files_of}
 use Rattle.irdl_engine.specs.InOrder.{IsReached, text_at}
 use Rattle.irdl_engine.specs.Judged.{Predicates, AreDefinitions, AreRefusedAt}
-use Rattle.irdl_engine.specs.Reading.{AreTextsOf, IsRead}
+use Rattle.irdl_engine.specs.Modules.{IsLoadedFrom, IsModuleFault, Denotes, canonical_text}
+use Rattle.irdl_engine.specs.Modules.{module_code_name, module_code_text}
+use Rattle.irdl_engine.specs.Reading.{AreTextsOf, IsRead, IsTextOf}
 
 -- a status, with what standard output and standard error get
 pub record Answer : Type 0 where
@@ -136,10 +168,89 @@ abbrev pub Checked : Predicates → FileMap → List Text → Answer → Type 0
 Checked natives files names a = TellsFirstUnread files names a
     ⊎ ((texts : List Text) × AreTextsOf files names texts × Judged natives names texts a)
 
--- words that are no command get the usage line, and `check` judges its files
+-- ---- modules
+
+-- a module of this name is refused at this place, by this rule
+abbrev pub module_refused : Text → LineCol → ℕ → Answer
+module_refused name place code = record {
+  status = ModuleRefused;
+  out = [];
+  err = refusal_line name place (module_code_text code) (module_code_name code) [];
+}
+
+-- the line for a text that is too long
+abbrev pub output_limit_line : Text
+output_limit_line = concat (codes "output limit\n" ∷ [])
+
+-- the text is written; of one that is too long the bytes up to the limit, and a line that says so
+abbrev pub printed : Text → Answer
+printed text =
+    if nat_le (length text) TEXT_LIMIT
+    then record { status = Done; out = text; err = [] }
+    else record {
+      status = OutputLimit;
+      out = take TEXT_LIMIT text;
+      err = output_limit_line;
+    }
+
+-- nothing is written of a module, or its canonical text in a form
+abbrev pub answered : Option Form → List OpDef → WholeModule → Answer
+answered None ops m = done
+answered (Some form) ops m = printed (canonical_text form ops m)
+
+-- definition files that can't be read, or are refused
+abbrev pub Stopped : Predicates → FileMap → List Text → Answer → Type 0
+Stopped natives files names a = TellsFirstUnread files names a
+    ⊎ ((texts : List Text) × AreTextsOf files names texts × TellsRefusal natives names texts a)
+
+-- The definition files of these names are there, and define this.
+pub record IsLoadedOf (natives : Predicates) (files : FileMap) (names : List Text)
+    (loaded : Loaded) : Type 0 where
+  pub texts : List Text
+  pub has : AreTextsOf files names texts
+  pub loaded_from : IsLoadedFrom natives texts loaded
+
+-- The text of a module is refused, and the answer for the refusal.
+pub record TellsModuleFault (loaded : Loaded) (name text : Text) (a : Answer) : Type 0 where
+  pub fault : Fault
+  pub refused : IsModuleFault loaded text fault
+  pub is : a ≡ module_refused name (place_at text fault.place) fault.code
+
+-- The text denotes a module, and the answer for it.
+pub record TellsModule (loaded : Loaded) (form : Option Form) (text : Text) (a : Answer)
+    : Type 0 where
+  pub denoted : WholeModule
+  pub denotes : Denotes loaded text denoted
+  pub is : a ≡ answered form loaded.ops denoted
+
+-- The module file of this name is there, and its text is answered.
+pub record ReadsModule (loaded : Loaded) (files : FileMap) (name : Text) (form : Option Form)
+    (a : Answer) : Type 0 where
+  pub text : Text
+  pub has : IsTextOf files name text
+  pub told : TellsModuleFault loaded name text a ⊎ TellsModule loaded form text a
+
+-- first the definition files, and where these are accepted the module file
+abbrev pub ModuleChecked : Predicates → FileMap → List Text → Text → Option Form → Answer → Type 0
+ModuleChecked natives files names name form a = Stopped natives files names a
+    ⊎ ((loaded : Loaded) × IsLoadedOf natives files names loaded
+    × (TellsUnread name (files name) a ⊎ ReadsModule loaded files name form a))
+
+-- ---- commands
+
+-- words that are no command get the usage line; `check` judges its files, `verify` and `print` also
+-- a module
 abbrev pub Obeys : Predicates → FileMap → Option Command → Answer → Type 0
 Obeys natives files None a = a ≡ usage
 Obeys natives files (Some (Check names)) a = Checked natives files names a
+Obeys natives files (Some (Verify name names)) a = ModuleChecked natives files names name None a
+Obeys natives files (Some (Print form name names)) a =
+    ModuleChecked natives files names name (Some form) a
+
+-- `verify`, or `print` in a form
+abbrev pub module_command : Option Form → Text → List Text → Command
+module_command None name defs = Verify name defs
+module_command (Some form) name defs = Print form name defs
 
 -- the command names this file
 abbrev pub NamedBy : Option Command → Text → Type 0
@@ -157,11 +268,43 @@ abbrev pub MayAnswer : Predicates → FileMap → Type 0 → Option Command → 
 MayAnswer natives files failed command a =
     Obeys natives files command a ⊎ (failed × FaultsAt command a)
 
--- The command names files that are there, within the limit, and accepted.
-pub record Accepted (natives : Predicates) (files : FileMap) (command : Option Command)
+-- The command names definition files that are there, within the limit, and accepted.
+pub record AcceptedFiles (natives : Predicates) (files : FileMap) (command : Option Command)
     : Type 0 where
   pub names : List Text
   pub texts : List Text
   pub spells : command ≡ Some (Check names)
   pub has : AreTextsOf files names texts
   pub accepted : AreDefinitions natives texts
+
+-- the name of the module file that the command judges, if it judges one
+abbrev pub module_of : Option Command → Option Text
+module_of (Some (Verify name defs)) = Some name
+module_of (Some (Print form name defs)) = Some name
+module_of _ = None
+
+-- The command names definition files that are there and keep all rules, and a module file that is
+-- there and denotes a module by what the others define.
+pub record IsDenoted (natives : Predicates) (files : FileMap) (command : Option Command)
+    : Type 0 where
+  pub form : Option Form
+  pub name : Text
+  pub names : List Text
+  pub loaded : Loaded
+  pub text : Text
+  pub denoted : WholeModule
+  pub spells : command ≡ Some (module_command form name names)
+  pub defined : IsLoadedOf natives files names loaded
+  pub has : IsTextOf files name text
+  pub denotes : Denotes loaded text denoted
+
+-- It names such files, and what is to be written of the module is within its limit.
+pub record AcceptedModule (natives : Predicates) (files : FileMap) (command : Option Command)
+    : Type 0 where
+  pub module_is : IsDenoted natives files command
+  pub within : (answered module_is.form module_is.loaded.ops module_is.denoted).status ≡ Done
+
+-- the command names files that are there, within their limits, and accepted
+abbrev pub Accepted : Predicates → FileMap → Option Command → Type 0
+Accepted natives files command =
+    AcceptedFiles natives files command ⊎ AcceptedModule natives files command

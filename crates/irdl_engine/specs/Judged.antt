@@ -27,7 +27,6 @@
 --                              this number, counted from 0, and this is told of the refusal
 use Rattle.std.specs.Prelude.{◌≡◌, ◌⊎◌, ℕ, List, []}
 use Rattle.std.specs.List.{AllZip}
-use Rattle.std.specs.declared.option.Option.TheVariants.{Some, None}
 use Rattle.attr_value.specs.Values.{Value}
 use Rattle.dialect_defs.specs.declared.definition.OpDef.{OpDef}
 use Rattle.dialect_defs.specs.declared.definition.TypeDef.{TypeDef}

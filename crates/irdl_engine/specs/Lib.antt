@@ -8,3 +8,7 @@ pub mod Writes
 pub mod Numbers
 pub mod Obeyed
 pub mod Said
+pub mod Modules
+pub mod ModuleTexts
+pub mod ReadBack
+pub mod Printed

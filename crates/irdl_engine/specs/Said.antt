@@ -3,9 +3,12 @@
 --
 --   bytes_of texts          the bytes of each text that the code holds
 --   said names stop         the answer for a stop over files of these names, but for want of memory
---   answer_of names r       the same of what a call gave, which is done where nothing stopped it
+--   said_of_module name names stop
+--                           the same of a stop over a module file and definition files
 --   IsWithin count stop     the file that the stop tells is one of so many
 --   IsUnreadable stop       a file couldn't be opened or read
+--   IsModuleWithin count stop, IsModuleUnreadable stop
+--                           the same of a stop over a module file and definition files
 --   AreShort texts          no text is longer than the limit
 --   AreWhole told names texts
 --                           the texts are those of files of these names, read whole
@@ -13,6 +16,9 @@
 --                           r is what the reading of the file with this name and number gave
 --   MayStop files failed names a
 --                           a tells the first file that can't be read, or a read fault
+--   MayStopLoading natives files failed names a
+--                           a tells why definition files of these names aren't accepted, or a read
+--                           fault
 --   IsReadingStop files names stop
 --                           the stop tells why files of these names weren't read
 --   StandsAt src r at       the refusal r stands at this place of the text src
@@ -24,7 +30,7 @@
 --                           r is the judgement of the texts
 --
 -- Inside: no public clause rests on this.
-use Rattle.std.specs.Prelude.{ℕ, ◌≡◌, ◌⊎◌, ◌<◌, ◌≤◌, ⊤, List, [], length, map, IsTrue, IfSome, slice_get}
+use Rattle.std.specs.Prelude.{ℕ, ◌≡◌, ◌⊎◌, ◌<◌, ◌≤◌, ⊤, List, [], ◌∷◌, length, map, IsTrue, IfSome, slice_get}
 use Rattle.std.specs.declared.alloc.Global.{Global}
 use Rattle.std.specs.declared.option.Option.{Option}
 use Rattle.std.specs.declared.option.Option.TheVariants.{Some, None}
@@ -39,8 +45,10 @@ use Rattle.irdl_ops.specs.declared.raw.RawDefs.{RawDefs}
 use Rattle.irdl_engine.specs.declared.stop.Refusal.{Refusal}
 use Rattle.irdl_engine.specs.declared.stop.Stop.{Stop}
 use Rattle.irdl_engine.specs.declared.stop.Stop.TheVariants.{Unreadable, TooLong, Refused, OutOfMemory}
-use Rattle.irdl_engine.specs.Answer.{Answer, done, read_fault, input_limit, refused}
-use Rattle.irdl_engine.specs.Answer.{FaultsAt, TellsUnread, TellsFirstUnread}
+use Rattle.irdl_engine.specs.declared.stop.ModuleStop.{ModuleStop}
+use Rattle.irdl_engine.specs.declared.stop.ModuleStop.TheVariants.{Definitions, Module, Fault}
+use Rattle.irdl_engine.specs.Answer.{Answer, read_fault, input_limit, refused, module_refused}
+use Rattle.irdl_engine.specs.Answer.{FaultsAt, Stopped, TellsUnread, TellsFirstUnread}
 use Rattle.irdl_engine.specs.Command.{Check}
 use Rattle.irdl_engine.specs.InOrder.{text_at}
 use Rattle.irdl_engine.specs.Judged.{Predicates, AreDefinitions, AreRefusedAt, SpellsFile, IsTokenRefusal}
@@ -60,10 +68,11 @@ said names (TooLong file) = Some (input_limit (text_at names file))
 said names (Refused r) = Some (refused (text_at names r.file) r.place r.code r.told.items)
 said names OutOfMemory = None
 
--- all is well where nothing stopped the call
-abbrev pub answer_of : List Text → Result (Unit {0}) Stop → Option Answer
-answer_of names (Ok ok) = Some done
-answer_of names (Err stop) = said names stop
+-- the answer for a stop over a module file of this name and definition files of these
+abbrev pub said_of_module : Text → List Text → ModuleStop → Option Answer
+said_of_module name names (Definitions stop) = said names stop
+said_of_module name names (Module stop) = said (name ∷ []) stop
+said_of_module name names (Fault r) = Some (module_refused name r.place r.code)
 
 -- the file that the stop tells is one of so many
 abbrev pub IsWithin : ℕ → Stop → Type 0
@@ -76,6 +85,18 @@ IsWithin count OutOfMemory = ⊤
 abbrev pub IsUnreadable : Stop → Type 0
 IsUnreadable (Unreadable file) = ⊤
 IsUnreadable _ = ⊥
+
+-- the same of such a stop, where the module file is the one of its names
+abbrev pub IsModuleWithin : ℕ → ModuleStop → Type 0
+IsModuleWithin count (Definitions stop) = IsWithin count stop
+IsModuleWithin count (Module stop) = IsWithin 1 stop
+IsModuleWithin count (Fault r) = ⊤
+
+-- a file couldn't be opened or read
+abbrev pub IsModuleUnreadable : ModuleStop → Type 0
+IsModuleUnreadable (Definitions stop) = IsUnreadable stop
+IsModuleUnreadable (Module stop) = IsUnreadable stop
+IsModuleUnreadable (Fault r) = ⊥
 
 -- ---- reading
 
@@ -107,6 +128,11 @@ ReadsText files name file (Err OutOfMemory) = ⊤
 abbrev pub MayStop : FileMap → Type 0 → List Text → Answer → Type 0
 MayStop files failed names a =
     TellsFirstUnread files names a ⊎ (failed × FaultsAt (Some (Check names)) a)
+
+-- Definition files can't be read or are refused, or reading failed by itself.
+abbrev pub MayStopLoading : Predicates → FileMap → Type 0 → List Text → Answer → Type 0
+MayStopLoading natives files failed names a =
+    Stopped natives files names a ⊎ (failed × FaultsAt (Some (Check names)) a)
 
 -- A stop while files of these names were read: it tells one of them, where the files tell their
 -- bytes the right one, and a read fault has its cause.

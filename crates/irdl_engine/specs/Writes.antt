@@ -6,6 +6,7 @@
 --                     it got a front of this text, and nothing
 --   GivesAll a ..     the answer a was given
 --   GivesFronts a ..  a write failed, and each sink got a front of what a has for it
+--   GivesOut a ..     memory ran out while standard output was written
 --   GivesUp ..        memory ran out, and nothing was written
 --   GivesPlanned natives files failed command ..
 --                     an answer that may be planned was given, whole or in part
@@ -58,6 +59,12 @@ pub record GivesFronts (a : Answer) (status : Status) (out err : Change) : Type 
   pub out_got : GotFront out a.out
   pub err_got : GotFront err a.err
 
+-- memory ran out while standard output was written: it got a front of what is for it
+pub record GivesOut (a : Answer) (status : Status) (out err : Change) : Type 0 where
+  pub status_is : status ≡ OutOfMemory
+  pub out_got : GotFront out a.out
+  pub err_kept : GotNothing err
+
 -- memory ran out: the sinks got nothing
 pub record GivesUp (status : Status) (out err : Change) : Type 0 where
   pub status_is : status ≡ OutOfMemory
@@ -69,7 +76,8 @@ pub record GivesPlanned (natives : Predicates) (files : FileMap) (failed : Type 
     (command : Option Command) (status : Status) (out err : Change) : Type 0 where
   pub answer : Answer
   pub planned : MayAnswer natives files failed command answer
-  pub given : GivesAll answer status out err ⊎ GivesFronts answer status out err
+  pub given : GivesAll answer status out err
+      ⊎ (GivesFronts answer status out err ⊎ GivesOut answer status out err)
 
 -- an answer that may be planned was given, or memory ran out
 abbrev pub MayGive : Predicates → FileMap → Type 0 → Option Command → Status → Change → Change

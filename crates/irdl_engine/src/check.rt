@@ -7,9 +7,10 @@ ghost use Rattle.irdl_engine.specs.Obeyed.{Obeyed, files_seen, sink_seen};
 ghost use Rattle.irdl_engine.specs.Words.{texts};
 ghost use Rattle.native_predicate.specs.Lists.{names, tests};
 
-use crate::definition_files::judge_files;
+use crate::definition_files::load_files;
 use crate::report::report;
 use crate::status::Status;
+use attr_uniquer::Uniquer;
 use irdl_bytes::{Files, Sink};
 use native_predicate::Natives;
 use std::alloc::Global;
@@ -30,8 +31,9 @@ pub fn check<F: Files, O: Sink, E: Sink>(
         (sink_seen O.written O.faults out.old out.new)
         (sink_seen E.written E.faults err.old err.new) }
 {
-    match judge_files(alloc, natives, files, defs) {
-        Ok(()) => Status::Done,
+    let mut u = Uniquer::new(alloc);
+    match load_files(alloc, natives, files, defs, &mut u) {
+        Ok(_) => Status::Done,
         Err(stop) => report(err, defs, &stop),
     }
 }

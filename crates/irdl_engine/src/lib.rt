@@ -8,6 +8,10 @@
 mod check;
 mod command;
 mod definition_files;
+mod module_code;
+mod module_file;
+mod module_reading;
+mod print;
 mod report;
 mod status;
 mod stop;
@@ -16,6 +20,7 @@ mod top;
 mod trees;
 
 pub use command::DEF_LIMIT;
+pub use module_reading::read_module_text;
 pub use status::Status;
 pub use top::run;
 

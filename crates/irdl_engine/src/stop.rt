@@ -1,4 +1,4 @@
-//! Why the work on definition files stops.
+//! Why the work on definition files and modules stops.
 
 use dialect_registry::DefCode;
 use ir_lexer::LineCol;
@@ -36,4 +36,22 @@ impl From<AllocError> for Stop {
     fn from(_: AllocError) -> Stop {
         Stop::OutOfMemory
     }
+}
+
+/// A rule on modules that is broken, by its number, and where in the module file.
+#[derive(Clone, Copy, Debug)]
+pub struct ModuleRefusal {
+    pub place: LineCol,
+    pub code: u32,
+}
+
+/// Why the work on a module stopped.
+#[derive(Debug, Drop)]
+pub enum ModuleStop {
+    /// The definition files aren't accepted.
+    Definitions(Stop),
+    /// The module file, which has the number 0, isn't read, or memory ran out.
+    Module(Stop),
+    /// The module breaks a rule.
+    Fault(ModuleRefusal),
 }

@@ -10,7 +10,7 @@ use irdl_bytes::{Files, ReadError, read_whole};
 use std::alloc::Global;
 
 /// Reads the file of this name whole. It is told by its number.
-fn read_text<F: Files>(
+pub fn read_text<F: Files>(
     alloc: Global,
     files: &mut F,
     file: usize,
@@ -41,6 +41,8 @@ pub fn read_texts<F: Files>(
         AreWhole (F.file_map files.old) (words.texts names.now) (bytes_of texts.items)) }
     ensures err { IfErr result (IsReadingStop
         (files_seen F.file_map F.steady F.faults files.old files.new) (words.texts names.now)) }
+    ensures same_map { F.file_map files.new ≡ F.file_map files.old }
+    ensures stays_steady { IsTrue (F.steady files.old) → IsTrue (F.steady files.new) }
     ensures later { F.faults files.old ≤ F.faults files.new }
 {
     let mut texts = Vec::new(alloc);

@@ -26,13 +26,7 @@ fn rule_of(code: SyntaxCode) -> DefCode
 
 /// A refusal by this rule, at this place of the text of the file with this number, of which this is
 /// told.
-pub fn refusal_at(
-    file: usize,
-    text: &[u8],
-    place: u32,
-    code: DefCode,
-    told: Vec<u8>,
-) -> Refusal
+pub fn refusal_at(file: usize, text: &[u8], place: u32, code: DefCode, told: Vec<u8>) -> Refusal
     requires { length text.now ≤ FILE_LIMIT }
     ensures stands { StandsAt text.now result place }
     ensures in_file { result.file ≡ file }

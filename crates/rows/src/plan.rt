@@ -11,7 +11,9 @@ pub struct Plan {
     pub call: u64,
     /// The write to standard error that fails.
     pub write: u64,
-    /// The row is also run with each standard error that has too little room.
+    /// How many bytes standard output gets, where these are more than the row spells.
+    pub out: u64,
+    /// The row is also run with each stream that has too little room.
     pub fronts: bool,
 }
 
@@ -26,6 +28,7 @@ impl Plan {
                 "spaces" => plan.spaces = number,
                 "call" => plan.call = number,
                 "write" => plan.write = number,
+                "out" => plan.out = number,
                 "fronts" => plan.fronts = true,
                 _ => bail!("no item of a plan: {item}"),
             }

@@ -3,9 +3,19 @@
 use crate::plan::Plan;
 use anyhow::{Context, Result, bail};
 use std::alloc::{AllocError, Global};
+use std::fs;
 
 /// The names of the files of a listed row, in the order of its texts.
 const LISTED_NAMES: [&str; 3] = ["f.irdl", "g.irdl", "h.irdl"];
+
+/// The name of the module of a listed row, which is the last of its texts.
+const MODULE_NAME: &str = "m.mlir";
+
+/// The commands that read a module, without its name.
+const MODULE_COMMANDS: [&str; 2] = ["verify", "print generic"];
+
+/// What stands between a module and its printed text.
+const OUTCOME: &str = "// ---->\n";
 
 /// A file in memory.
 #[derive(Drop)]
@@ -37,10 +47,11 @@ impl<'a> Row<'a> {
             bail!("a row has five fields before its texts: {line}");
         };
         let plan = Plan::of_items(plan)?;
+        let has_module = words.starts_with("verify") || words.starts_with("print");
         Ok(Row {
             title: line,
             words: words_of(alloc, words)?,
-            files: listed_files(alloc, texts, plan.spaces)?,
+            files: listed_files(alloc, texts, has_module, plan.spaces)?,
             plan,
             status: status.parse()?,
             out: unescaped(alloc, out)?,
@@ -49,7 +60,16 @@ impl<'a> Row<'a> {
     }
 
     /// The row of a part of a drawn file.
-    pub fn drawn(alloc: Global, name: &'a str, part: &'a str) -> Result<Row<'a>> {
+    pub fn drawn(rt: &HostRuntime, name: &'a str, part: &'a str) -> Result<Row<'a>> {
+        if name.ends_with(".mlir") {
+            Row::of_module(rt, name, part)
+        } else {
+            Row::of_definitions(rt.alloc(), name, part)
+        }
+    }
+
+    /// The row of a drawn definition file.
+    fn of_definitions(alloc: Global, name: &'a str, part: &'a str) -> Result<Row<'a>> {
         let err = drawn_line(alloc, name, part)?;
         let text = part.as_bytes().to_vec(alloc)?;
         Ok(Row {
@@ -62,15 +82,87 @@ impl<'a> Row<'a> {
             err,
         })
     }
+
+    /// The row of a drawn module, with the definition files that its first line names.
+    fn of_module(rt: &HostRuntime, name: &'a str, part: &'a str) -> Result<Row<'a>> {
+        let alloc = rt.alloc();
+        let (command, defs) = command_in(part).context("a module begins with its command")?;
+        let mut words: Vec<&str> = command.split_whitespace().collect(alloc)?;
+        words.push(name)?;
+        let (text, printed) = part.split_once(OUTCOME).unwrap_or((part, ""));
+        let text = text.as_bytes().to_vec(alloc)?;
+        let mut files = vec![in alloc; File { name, text }]?;
+        for def in defs.split_whitespace() {
+            words.push(def)?;
+            let text = fs::read(rt, def).context("reading a definition file")?;
+            files.push(File { name: def, text })?;
+        }
+        let err = drawn_line(alloc, name, part)?;
+        let out = if command == "verify" || !err.is_empty() {
+            Vec::new(alloc)
+        } else if part.contains(OUTCOME) {
+            printed.as_bytes().to_vec(alloc)?
+        } else {
+            without_comments(alloc, part)?
+        };
+        Ok(Row {
+            title: part,
+            words,
+            files,
+            plan: Plan::default(),
+            status: if err.is_empty() { 0 } else { 2 },
+            out,
+            err,
+        })
+    }
+
+    /// How many bytes standard output has to get.
+    pub fn out_length(&self) -> usize {
+        self.out.len().max(self.plan.out as usize)
+    }
 }
 
-/// The files of these texts. So many spaces stand behind the first.
-fn listed_files(alloc: Global, texts: &[&str], spaces: u64) -> Result<Vec<File<'static>>> {
+/// The command in the first line of a module, and the definition files behind it.
+fn command_in(part: &str) -> Option<(&'static str, &str)> {
+    let line = part.lines().next()?.strip_prefix("// ")?;
+    for command in MODULE_COMMANDS {
+        if let Some(defs) = line.strip_prefix(command) {
+            return Some((command, defs));
+        }
+    }
+    None
+}
+
+/// The lines of a text that are no comments.
+fn without_comments(alloc: Global, text: &str) -> Result<Vec<u8>, AllocError> {
+    let mut bytes = Vec::new(alloc);
+    for line in text.lines() {
+        if !line.starts_with("//") {
+            bytes.extend_from_slice(line.as_bytes())?;
+            bytes.push(b'\n')?;
+        }
+    }
+    Ok(bytes)
+}
+
+/// The files of these texts, of which the last may be a module. So many spaces stand behind the
+/// first.
+fn listed_files(
+    alloc: Global,
+    texts: &[&str],
+    has_module: bool,
+    spaces: u64,
+) -> Result<Vec<File<'static>>> {
     let mut files = Vec::new(alloc);
     for (file, text) in texts.iter().enumerate() {
-        let name = *LISTED_NAMES
-            .get(file)
-            .context("a row has three texts at most")?;
+        let is_last = file.saturating_add(1) == texts.len();
+        let name = if has_module && is_last {
+            MODULE_NAME
+        } else {
+            *LISTED_NAMES
+                .get(file)
+                .context("a row has three texts at most")?
+        };
         let mut text = unescaped(alloc, text)?;
         if file == 0 {
             for _ in 0..spaces {

@@ -1,7 +1,0 @@
-use Rattle.std.proofs.lemmas.Result.{err_from_is_err_and}
-use Rattle.irdl_engine.proofs.definition_files.judge_texts.Goals as goal
-
-pub returns-in_err-trees : goal.returns-in_err-trees
-returns-in_err-trees g c =
-    let p = err_from_is_err_and c.from_residual.result c.from_residual.ensures.1 in
-    rw (p.1, p.2) (c.in_err-trees.ensures.err _)
