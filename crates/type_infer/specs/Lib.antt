@@ -1,0 +1,11 @@
+pub mod Determined
+pub mod Completes
+pub mod OneCompletion
+pub mod Shows
+pub mod Marks
+pub mod Rule
+pub mod Asked
+pub mod Found
+pub mod AllShown
+pub mod Picked
+pub mod Wants
