@@ -72,7 +72,7 @@ def aliases(count, file):
 # Each shape with its count and the status of `print generic`; that of `verify` is 0.
 SHAPES = [
     (aliases, 25, 8), (soak, 50_000, 0), (soak, 100_000, 0), (soak, 200_000, 0),
-    (forward, 200_000, 0), (nested, 200_000, 0), (dictionaries, 200_000, 0),
+    (forward, 200_000, 0), (nested, 100_000, 0), (dictionaries, 200_000, 0),
 ]
 
 
