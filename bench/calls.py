@@ -34,7 +34,7 @@ WORKS = [
 
 def measure(program, work, count):
     """The best time of some runs in seconds, that of the part which they tell, and the greatest
-    memory of any run so far in MB."""
+    memory of any run so far in MiB."""
     times, parts = [], []
     for _ in range(RUNS):
         start = time.perf_counter()
@@ -51,7 +51,7 @@ def main():
     program = sys.argv[1] if len(sys.argv) > 1 else default
     if not os.access(program, os.X_OK):
         sys.exit(f"{program} isn't built: run `rt run` in crates/bench_calls once")
-    print("work           count   seconds  peak MB     alone")
+    print("work           count   seconds peak MiB     alone")
     for work, count in WORKS:
         if sys.argv[2:] and work not in sys.argv[2:]:
             continue

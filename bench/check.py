@@ -77,7 +77,7 @@ def spaces(file):
 
 
 def measure(program, path, status):
-    """The best time of some runs in seconds, and the greatest memory of any run so far in MB."""
+    """The best time of some runs in seconds, and the greatest memory of any run so far in MiB."""
     best = None
     for _ in range(RUNS):
         start = time.perf_counter()
@@ -98,7 +98,7 @@ def main():
     program = sys.argv[1] if len(sys.argv) > 1 else os.path.join(here, "../crates/irdl_opt/out/irdl_opt")
     if not os.access(program, os.X_OK):
         sys.exit(f"{program} isn't built: run ./irdl_opt once")
-    print("file                  bytes status   seconds     MB/s  peak MB")
+    print("file                  bytes status   seconds     MB/s peak MiB")
     with tempfile.TemporaryDirectory() as folder:
         for write, status in FILES:
             name = write.__name__

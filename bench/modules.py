@@ -72,12 +72,14 @@ def aliases(count, file):
 # Each shape with its count and the status of `print generic`; that of `verify` is 0.
 SHAPES = [
     (aliases, 25, 8), (soak, 50_000, 0), (soak, 100_000, 0), (soak, 200_000, 0),
-    (forward, 200_000, 0), (nested, 100_000, 0), (dictionaries, 200_000, 0),
+    (forward, 50_000, 0), (forward, 100_000, 0), (forward, 200_000, 0),
+    (nested, 25_000, 0), (nested, 50_000, 0), (nested, 100_000, 0),
+    (dictionaries, 50_000, 0), (dictionaries, 100_000, 0), (dictionaries, 200_000, 0),
 ]
 
 
 def measure(words, status):
-    """The best elapsed and processor seconds of some runs, and the greatest memory in MB."""
+    """The best elapsed and processor seconds of some runs, and the greatest memory in MiB."""
     elapsed, processor, memory = [], [], []
     for _ in range(RUNS):
         start = time.perf_counter()
@@ -97,7 +99,7 @@ def main():
     program = sys.argv[1] if len(sys.argv) > 1 else os.path.join(here, "../crates/irdl_opt/out/irdl_opt")
     if not os.access(program, os.X_OK):
         sys.exit(f"{program} isn't built: run ./irdl_opt once")
-    print("module          count      bytes words          seconds processor  peak MB")
+    print("module          count      bytes words          seconds processor peak MiB")
     with tempfile.TemporaryDirectory() as folder:
         definitions = os.path.join(folder, "soak.irdl")
         with open(definitions, "wb") as file:
